@@ -1,0 +1,6 @@
+pub mod Judging
+pub mod Checksums
+pub mod Contents
+pub mod Meanings
+pub mod Standing
+pub mod Laying
