@@ -56,7 +56,6 @@ tests-pass c =
 
 -- A packet is read as what it says.
 pub content-reads : (c : Content) → content-of (packet c) ≡ Ok c
-unfolding content-of
 content-reads c = judged-ok (packet-tests (packet c)) (content-in (packet c)) (tests-pass c) ∙ ap Ok (content-read c)
 
 six-long : (xs : List ℕ) → 6 ≤ length xs → take 6 xs ≡ getD xs 0 0 ∷ getD xs 1 0 ∷ getD xs 2 0 ∷ getD xs 3 0 ∷ getD xs 4 0 ∷ getD xs 5 0 ∷ []
@@ -106,14 +105,12 @@ passing-is-packet p bytes all =
 
 -- No other byte string is read as what a packet says.
 pub content-only : (p : List ℕ) (c : Content) → Bytes p → content-of p ≡ Ok c → p ≡ packet c
-unfolding content-of
 content-only p c bytes e =
     let back = judged-back (packet-tests p) (content-in p) c e in
     passing-is-packet p bytes (back .0) ∙ ap packet (back .1)
 
 -- What a byte string says is made of its bytes.
 pub content-bytes : (p : List ℕ) (c : Content) → Bytes p → content-of p ≡ Ok c → Bytes (c .arguments)
-unfolding content-of
 content-bytes p c bytes e =
     let back = judged-back (packet-tests p) (content-in p) c e in
     rw (ap (λ d. d .arguments) (back .1)) at (bytes-take (length p - 10) (drop 8 p) (bytes-drop 8 p bytes))

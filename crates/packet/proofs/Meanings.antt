@@ -26,13 +26,11 @@ use Rattle.packet.proofs.Judging.{judged-back, all-pass, All-pass}
 use Rattle.packet.proofs.Checksums.{be-back, two-long, four-long}
 
 pub access-reads : (access : Access) → access-of (request-content access) ≡ Ok access
-unfolding access-of
 access-reads (ReadAccess address) = ap (λ a. Ok (ReadAccess a)) (div-add-mod' address 256)
 access-reads (WriteAccess address word) =
     ap₂ (λ a w. Ok (WriteAccess a w)) (div-add-mod' address 256) (div-add-mod' word 256)
 
 pub answer-reads : (reply : Reply) → answer-of (reply-function reply) (reply-content reply) ≡ Ok reply
-unfolding answer-of
 answer-reads (ReadReply (Ok word)) = ap (λ w. Ok (ReadReply (Ok w))) (div-add-mod' word 256)
 answer-reads (ReadReply (Err NotAcknowledged)) = refl
 answer-reads (ReadReply (Err NoRegister)) = refl
@@ -49,7 +47,6 @@ word-bytes : (xs : List ℕ) (i : ℕ) → Bytes xs → getD xs i 0 ∷ getD xs 
 word-bytes xs i bytes = sym (be-back (getD xs i 0) (getD xs (i + 1) 0) (bytes i) (bytes (i + 1)))
 
 pub access-only : (c : Content) (access : Access) → Bytes (c .arguments) → access-of c ≡ Ok access → c ≡ request-content access
-unfolding access-of
 access-only c access bytes e = go (eqb (c .function) 16) refl
   where
     back : (first-failing (request-tests c) ≡ None) × (asked c ≡ access)
@@ -101,7 +98,6 @@ said-is Write c bytes t =
     answer-is Write (λ _. []) tt (c .status) (c .function) (c .arguments) f (t .1 .0) (λ n. nil-from-length (c .arguments) n)
 
 pub answer-only : (function : Function) (c : Content) (reply : Reply) → Bytes (c .arguments) → answer-of function c ≡ Ok reply → c ≡ reply-content reply
-unfolding answer-of
 answer-only function c reply bytes e =
     let back = judged-back (reply-tests function c) (said function c) reply e in
     said-is function c bytes (all-pass (reply-tests function c) (back .0)) ∙ ap reply-content (back .1)

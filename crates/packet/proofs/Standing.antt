@@ -34,7 +34,6 @@ no-other meaning c value only p bytes e =
     content-only p (back .0) bytes (back .1) ∙ ap packet (only (back .0) (content-bytes p (back .0) bytes (back .1)) (back .2))
 
 pub request-stands : (access : Access) → Request-stands access
-unfolding request-of
 request-stands access =
     record {
       reads-back = reads-back access-of (request-content access) access (access-reads access);
@@ -42,7 +41,6 @@ request-stands access =
     }
 
 pub reply-stands : (reply : Reply) → Reply-stands reply
-unfolding reply-of
 reply-stands reply =
     record {
       reads-back = reads-back (answer-of (reply-function reply)) (reply-content reply) reply (answer-reads reply);

@@ -60,7 +60,7 @@ abbrev pub content-in : List ℕ → Content
 content-in p = record { status = byte-at p 1; function = byte-at p 3; arguments = take (length p - 10) (drop 8 p) }
 
 -- a byte string read as a packet
-unfoldable pub content-of : List ℕ → Result Content PacketRefusal
+abbrev pub content-of : List ℕ → Result Content PacketRefusal
 content-of p = judged (packet-tests p) (content-in p)
 
 -- both tests hold
@@ -89,7 +89,7 @@ asked content =
     (WriteAccess (word-at (content .arguments) 0) (word-at (content .arguments) 2))
 
 -- a packet's content read as a request
-unfoldable pub access-of : Content → Result Access PacketRefusal
+abbrev pub access-of : Content → Result Access PacketRefusal
 access-of content = judged (request-tests content) (asked content)
 
 -- how many argument bytes answer a function: the word of a read
@@ -118,7 +118,7 @@ said Read content = ReadReply (answered (content .status) (word-at (content .arg
 said Write content = WriteReply (answered (content .status) tt)
 
 -- a packet's content read as the reply to a function
-unfoldable pub answer-of : Function → Content → Result Reply PacketRefusal
+abbrev pub answer-of : Function → Content → Result Reply PacketRefusal
 answer-of function content = judged (reply-tests function content) (said function content)
 
 -- the meaning of a packet, by a reading of its content
@@ -126,11 +126,11 @@ abbrev pub then : {A : Type 0} → Result Content PacketRefusal → (Content →
 then opened meaning = elim opened [ Ok content ↦ meaning content | Err refusal ↦ Err refusal ]
 
 -- a byte string read as a request
-unfoldable pub request-of : List ℕ → Result Access PacketRefusal
+abbrev pub request-of : List ℕ → Result Access PacketRefusal
 request-of p = then (content-of p) access-of
 
 -- a byte string read as the reply to a function
-unfoldable pub reply-of : Function → List ℕ → Result Reply PacketRefusal
+abbrev pub reply-of : Function → List ℕ → Result Reply PacketRefusal
 reply-of function p = then (content-of p) (answer-of function)
 
 -- A packet reads back as the access that it was built from, and no other byte string reads as that access.

@@ -207,19 +207,17 @@ fn reply_in(function: Function, parts: Parts<'_>) -> Result<Reply, PacketRefusal
     }
 }
 
-// Reads a byte string as a request. Only the packet of an access reads as that access.
+// Reads a byte string as a request.
 pub fn unpack_request(packet: &[u8]) -> Result<Access, PacketRefusal>
     ensures answer { λ r. ⌜ r ≡ request-of (now (packet .entry)) ⌝ }
-    ensures only { λ r. ⌜ ((access : Access) → r ≡ Ok access → now (packet .entry) ≡ request-packet access) ⌝ }
 {
     let parts = opened(packet)?;
     access_in(parts)
 }
 
-// Reads a byte string as the reply to a request's function. Only the packet of a reply reads as that reply.
+// Reads a byte string as the reply to a request with a function.
 pub fn unpack_reply(function: Function, packet: &[u8]) -> Result<Reply, PacketRefusal>
     ensures answer { λ r. ⌜ r ≡ reply-of function (now (packet .entry)) ⌝ }
-    ensures only { λ r. ⌜ ((reply : Reply) → r ≡ Ok reply → now (packet .entry) ≡ reply-packet reply) ⌝ }
 {
     let parts = opened(packet)?;
     reply_in(function, parts)
@@ -262,11 +260,25 @@ fn write_packet(status: u8, function: u8, arguments: &[u8], buffer: &mut [u8]) -
     Ok(end + 2)
 }
 
-// Writes the packet of a request.
-fn write_request(access: Access, buffer: &mut [u8]) -> Result<usize, PacketRefusal>
+// A law, with nothing to run: the packet of an access reads back as that access, and no other byte string does.
+fn request_law(access: Access)
+    ensures stands { λ _. ⌜ Request-stands access ⌝ }
+{
+}
+
+// A law, with nothing to run: the packet of a reply reads back as that reply, and no other byte string does.
+fn reply_law(reply: Reply)
+    ensures stands { λ _. ⌜ Reply-stands reply ⌝ }
+{
+}
+
+// Writes the packet of a request to the front of a buffer of at least 14 bytes, and says how many bytes it has.
+pub fn pack_request(access: Access, buffer: &mut [u8]) -> Result<usize, PacketRefusal>
     ensures answer { λ r. ⌜ r ≡ written (request-packet access) (now (buffer .entry)) ⌝ }
     ensures after { λ _. ⌜ now (buffer .exit) ≡ buffer-after (request-packet access) (now (buffer .entry)) ⌝ }
+    ensures stands { λ _. ⌜ Request-stands access ⌝ }
 {
+    request_law(access);
     match access {
         Access::Read { address } => write_packet(0, READ, &be_bytes(address), buffer),
         Access::Write { address, word } => {
@@ -277,35 +289,17 @@ fn write_request(access: Access, buffer: &mut [u8]) -> Result<usize, PacketRefus
     }
 }
 
-// Writes the packet of a reply.
-fn write_reply(reply: Reply, buffer: &mut [u8]) -> Result<usize, PacketRefusal>
+// Writes the packet of a reply to the front of a buffer of at least 14 bytes, and says how many bytes it has.
+pub fn pack_reply(reply: Reply, buffer: &mut [u8]) -> Result<usize, PacketRefusal>
     ensures answer { λ r. ⌜ r ≡ written (reply-packet reply) (now (buffer .entry)) ⌝ }
     ensures after { λ _. ⌜ now (buffer .exit) ≡ buffer-after (reply-packet reply) (now (buffer .entry)) ⌝ }
+    ensures stands { λ _. ⌜ Reply-stands reply ⌝ }
 {
+    reply_law(reply);
     match reply {
         Reply::Read(Ok(word)) => write_packet(0, READ, &be_bytes(word), buffer),
         Reply::Read(Err(denial)) => write_packet(denial.status(), READ, &[], buffer),
         Reply::Write(Ok(())) => write_packet(0, WRITE, &[], buffer),
         Reply::Write(Err(denial)) => write_packet(denial.status(), WRITE, &[], buffer),
     }
-}
-
-// Writes the packet of a request to the front of a buffer of at least 14 bytes, and says how many bytes it has. The
-// packet reads back as its access, and no other byte string does.
-pub fn pack_request(access: Access, buffer: &mut [u8]) -> Result<usize, PacketRefusal>
-    ensures answer { λ r. ⌜ r ≡ written (request-packet access) (now (buffer .entry)) ⌝ }
-    ensures after { λ _. ⌜ now (buffer .exit) ≡ buffer-after (request-packet access) (now (buffer .entry)) ⌝ }
-    ensures stands { λ _. ⌜ Request-stands access ⌝ }
-{
-    write_request(access, buffer)
-}
-
-// Writes the packet of a reply to the front of a buffer of at least 14 bytes, and says how many bytes it has. The packet
-// reads back as the reply, and no other byte string does.
-pub fn pack_reply(reply: Reply, buffer: &mut [u8]) -> Result<usize, PacketRefusal>
-    ensures answer { λ r. ⌜ r ≡ written (reply-packet reply) (now (buffer .entry)) ⌝ }
-    ensures after { λ _. ⌜ now (buffer .exit) ≡ buffer-after (reply-packet reply) (now (buffer .entry)) ⌝ }
-    ensures stands { λ _. ⌜ Reply-stands reply ⌝ }
-{
-    write_reply(reply, buffer)
 }
