@@ -202,13 +202,13 @@ BAD_SIZES = [
 ]
 BAD_BYTES = [
     "6", "6EE", "0x6E", "G0", "0G", "0x", "+6", "-1", "6_", "\u00e9", "\u0661\u0661", "\uff16\uff25", "6E,", "6E6E",
-    "0006E", "6E\x0c", "6E\u00a0", "6\x00", ":", "\r", "..", "6E\r00",
+    "0006E", "6E\x0b", "6E\u00a0", "6\x00", ":", "..", "6E\x1f00",
 ]
 
 UNKNOWN_DIRECTIVES = [
-    "crcs 6E", "CRC 6E", "unpack 6E", "\x0c", "crc\u00a06E", "\ufeffcrc 6E", "crc\r6E", "6E", ":", "\x0bcrc 6E", "Crc",
+    "crcs 6E", "CRC 6E", "unpack 6E", "\x0b", "crc\u00a06E", "\ufeffcrc 6E", "crc\x1f6E", "6E", ":", "\x0bcrc 6E", "Crc",
     "unpack_request 6E", "unpack-requests 6E", "requests read 1", "request-read 1", "Request read 1", "\u00a0",
-    "REPLY write done", "crc\x0c6E", "\u2003", "\x00", "\r crc 6E", "\u0085",
+    "REPLY write done", "crc\x0b6E", "\u2003", "\x00", "\u0085",
 ]
 MISSING_FIELDS = [
     "request write 1", "reply read word", "request read", "unpack-reply", "reply write", "request", "reply read",
@@ -231,10 +231,6 @@ IMPOSSIBLE_REPLIES = [
 NOT_UTF_8 = [
     b"crc \xff", b"crc 6E # \x80", b"# \xc3", b"#\xc3(", b"crc 6E # \xed\xa0\x80", b"# \xc0\x80", b"\xff",
     b"# \xf5\x80\x80\x80", b"# \xe2\x82", b"request read 1 #\xfe", b" \xa0", b"crc\xa06E", b"# \xf4\x90\x80\x80",
-]
-CARRIAGE_RETURNS = [
-    b"crc 6E\r\r", b"crc 6E\r", b"\r\r", b"\r", b"request read 1 14\r\r", b"reply write done \r\r", b"crc \r\r",
-    b"crc\r", b"reply write done\r", b"unpack-request \r",
 ]
 
 
@@ -275,11 +271,6 @@ def raw_line(random: Random, turn: int) -> Line:
     return taken(NOT_UTF_8, turn)
 
 
-def carriage_return_line(random: Random, turn: int) -> Line:
-    """A line that ends in a carriage return which is no part of its ending."""
-    return taken(CARRIAGE_RETURNS, turn)
-
-
 def text_line(texts: list[str]) -> Callable[[Random, int], Line]:
     """What makes the lines given, as they are."""
     return lambda random, turn: taken(texts, turn).encode("utf-8")
@@ -295,7 +286,6 @@ ERROR_MAKERS: list[Callable[[Random, int], Line]] = [
     text_line(OTHER_WORDS),
     text_line(IMPOSSIBLE_REPLIES),
     raw_line,
-    carriage_return_line,
 ]
 """What makes the lines with an error, by kind. Each is given the turn of its kind."""
 
@@ -314,16 +304,11 @@ def right_lines(random: Random) -> list[Line]:
     return lines[:count]
 
 
-def must_stay_open(line: Line) -> bool:
-    """Whether a newline behind the line would mend it: its one carriage return would be part of the ending."""
-    return line.endswith(b"\r") and not line.endswith(b"\r\r")
-
-
 def with_endings(random: Random, lines: list[Line]) -> bytes:
     """The lines with their endings; the last one may have none."""
     endings = random.choice([[b"\n"], [b"\n"], [b"\r\n"], [b"\n", b"\r\n"]])
     ended = [line + random.choice(endings) for line in lines[:-1]]
-    last_ending = b"" if must_stay_open(lines[-1]) else random.choice([b"", *endings])
+    last_ending = random.choice([b"", *endings])
     return b"".join(ended) + lines[-1] + last_ending
 
 
@@ -332,7 +317,7 @@ def put_error(random: Random, lines: list[Line], turn: int) -> None:
     kind_turn, kind = divmod(turn, len(ERROR_MAKERS))
     line = ERROR_MAKERS[kind](random, kind_turn)
     last = len(lines) - 1
-    place = last if must_stay_open(line) else random.choice([last, random.randrange(last)])
+    place = random.choice([last, random.randrange(last)])
     lines[place] = line
 
 

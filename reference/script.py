@@ -5,10 +5,12 @@ Nothing here leans on what Python takes for a blank, a digit or the end of a lin
 
 from __future__ import annotations
 
+import re
 from typing import Mapping, Optional, TypeVar
 
 Value = TypeVar("Value")
 
+BLANKS = " \t\f\r"
 DECIMAL_DIGITS = "0123456789"
 HEXADECIMAL_DIGITS = "0123456789abcdefABCDEF"
 
@@ -26,12 +28,8 @@ class ScriptError(Exception):
 
 
 def without_ending(line: bytes) -> bytes:
-    """The line without the newline, or the carriage return and the newline, that ends it."""
-    if line.endswith(b"\r\n"):
-        return line[:-2]
-    if line.endswith(b"\n"):
-        return line[:-1]
-    return line
+    """The line without the newline that ends it."""
+    return line.removesuffix(b"\n")
 
 
 def split_fields(line: bytes) -> list[str]:
@@ -41,7 +39,7 @@ def split_fields(line: bytes) -> list[str]:
     except UnicodeDecodeError:
         raise FieldError("not UTF-8") from None
     before_comment = text.partition("#")[0]
-    return [field for field in before_comment.replace("\t", " ").split(" ") if field]
+    return [field for field in re.split("[" + BLANKS + "]", before_comment) if field]
 
 
 def digits_value(digits: str, base: int, largest: int) -> Optional[int]:
