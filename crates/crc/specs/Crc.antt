@@ -43,8 +43,3 @@ Bytes bytes = (i : ℕ) → getD bytes i 0 < 256
 -- The table's rule, for tables over n bits of data: entry k is what n shifts make of k at the top of the register.
 abbrev pub table-entry : ℕ → ℕ → ℕ
 table-entry n k = shift n (k * 2 ^ (16 - n))
-
--- the entries k, k + 1, .. of such a table, m of them
-unfoldable pub table-from : ℕ → ℕ → ℕ → List ℕ
-table-from n zero k = []
-table-from n (suc m) k = table-entry n k ∷ table-from n m (suc k)

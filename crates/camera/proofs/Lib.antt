@@ -1,0 +1,3 @@
+pub mod Addresses
+pub mod Lists
+pub mod CommandWords

@@ -1,0 +1,17 @@
+// The camera behind a bus: its registers, its attributes and command words, and what an access does to its state.
+mod attribute;
+mod command;
+mod directory;
+mod fault;
+mod limits;
+mod register;
+
+pub use attribute::Attribute;
+pub use attribute::Kind;
+pub use attribute::Kinds;
+pub use attribute::Limits;
+pub use attribute::Name;
+pub use command::Command;
+pub use fault::Fault;
+pub use register::Register;
+pub use register::decode;
