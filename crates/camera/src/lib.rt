@@ -1,5 +1,6 @@
 // The camera behind a bus: its registers, its attributes and command words, and what an access does to its state.
 mod attribute;
+mod bus;
 mod command;
 mod directory;
 mod fault;
@@ -11,6 +12,7 @@ pub use attribute::Kind;
 pub use attribute::Kinds;
 pub use attribute::Limits;
 pub use attribute::Name;
+pub use bus::Bus;
 pub use command::Command;
 pub use fault::Fault;
 pub use register::Register;
