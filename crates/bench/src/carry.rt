@@ -35,7 +35,10 @@ pub(crate) fn carry_out(rt: &LibcRuntime, directive: Directive) -> Result<(), Sc
             print_packet(rt, "reply", written, buffer, size)?;
         }
         Directive::UnpackRequest(bytes) => print_request(rt, unpack_request(bytes.as_slice()))?,
-        Directive::UnpackReply(function, bytes) => print_reply(rt, unpack_reply(function, bytes.as_slice()))?,
+        Directive::UnpackReply(function, bytes) => print_reply(
+            rt,
+            unpack_reply(function, bytes.as_slice()),
+        )?,
     }
     Ok(())
 }
@@ -70,10 +73,16 @@ fn print_packet(
     Ok(())
 }
 
-fn print_request(rt: &LibcRuntime, answer: Result<Access, PacketRefusal>) -> Result<(), ScriptError> {
+fn print_request(
+    rt: &LibcRuntime,
+    answer: Result<Access, PacketRefusal>,
+) -> Result<(), ScriptError> {
     match answer {
         Ok(Access::Read { address }) => println!(rt, "unpack-request read {address:04X}")?,
-        Ok(Access::Write { address, word }) => println!(rt, "unpack-request write {address:04X} {word:04X}")?,
+        Ok(Access::Write { address, word }) => println!(
+            rt,
+            "unpack-request write {address:04X} {word:04X}"
+        )?,
         Err(refusal) => {
             let number = refusal.number();
             println!(rt, "unpack-request refused {number}")?;

@@ -45,8 +45,14 @@ fn parse(heap: Global, name: &str, fields: &[&str]) -> Result<Directive, ScriptE
         ("reply", ["read", rest @ ..]) => parse_read_reply(rest),
         ("reply", ["write", rest @ ..]) => parse_write_reply(rest),
         ("unpack-request", _) => Ok(Directive::UnpackRequest(bytes(heap, fields)?)),
-        ("unpack-reply", ["read", rest @ ..]) => Ok(Directive::UnpackReply(Function::Read, bytes(heap, rest)?)),
-        ("unpack-reply", ["write", rest @ ..]) => Ok(Directive::UnpackReply(Function::Write, bytes(heap, rest)?)),
+        ("unpack-reply", ["read", rest @ ..]) => Ok(Directive::UnpackReply(
+            Function::Read,
+            bytes(heap, rest)?,
+        )),
+        ("unpack-reply", ["write", rest @ ..]) => Ok(Directive::UnpackReply(
+            Function::Write,
+            bytes(heap, rest)?,
+        )),
         _ => Err(ScriptError::Directive),
     }
 }
@@ -63,10 +69,18 @@ fn parse_size(fields: &[&str]) -> Result<Option<usize>, ScriptError> {
 fn parse_request(fields: &[&str]) -> Result<Directive, ScriptError> {
     match fields {
         ["read", address, rest @ ..] => {
-            Ok(Directive::Request(Access::Read { address: word(address)? }, parse_size(rest)?))
+            Ok(Directive::Request(
+                Access::Read {
+                    address: word(address)?,
+                },
+                parse_size(rest)?,
+            ))
         }
         ["write", address, value, rest @ ..] => {
-            let access = Access::Write { address: word(address)?, word: word(value)? };
+            let access = Access::Write {
+                address: word(address)?,
+                word: word(value)?,
+            };
             Ok(Directive::Request(access, parse_size(rest)?))
         }
         _ => Err(ScriptError::Directive),
@@ -75,8 +89,14 @@ fn parse_request(fields: &[&str]) -> Result<Directive, ScriptError> {
 
 fn parse_read_reply(fields: &[&str]) -> Result<Directive, ScriptError> {
     match fields {
-        ["word", value, rest @ ..] => Ok(Directive::Reply(Reply::Read(Ok(word(value)?)), parse_size(rest)?)),
-        [other, rest @ ..] => Ok(Directive::Reply(Reply::Read(Err(parse_denial(other)?)), parse_size(rest)?)),
+        ["word", value, rest @ ..] => Ok(Directive::Reply(
+            Reply::Read(Ok(word(value)?)),
+            parse_size(rest)?,
+        )),
+        [other, rest @ ..] => Ok(Directive::Reply(
+            Reply::Read(Err(parse_denial(other)?)),
+            parse_size(rest)?,
+        )),
         [] => Err(ScriptError::Directive),
     }
 }
@@ -84,7 +104,10 @@ fn parse_read_reply(fields: &[&str]) -> Result<Directive, ScriptError> {
 fn parse_write_reply(fields: &[&str]) -> Result<Directive, ScriptError> {
     match fields {
         ["done", rest @ ..] => Ok(Directive::Reply(Reply::Write(Ok(())), parse_size(rest)?)),
-        [other, rest @ ..] => Ok(Directive::Reply(Reply::Write(Err(parse_denial(other)?)), parse_size(rest)?)),
+        [other, rest @ ..] => Ok(Directive::Reply(
+            Reply::Write(Err(parse_denial(other)?)),
+            parse_size(rest)?,
+        )),
         [] => Err(ScriptError::Directive),
     }
 }

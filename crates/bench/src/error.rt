@@ -20,13 +20,15 @@ pub(crate) enum ScriptError {
 
 pub(crate) impl fmt::Display for ScriptError as ScriptErrorDisplay {
     fn fmt<W: fmt::Write>(&self, f: &mut fmt::Formatter<W>) -> fmt::Result {
-        f.write_str(match self {
-            ScriptError::Directive => "no directive has this form",
-            ScriptError::Number => "a field is not a number that fits",
-            ScriptError::Byte => "a byte is not two hexadecimal digits",
-            ScriptError::Stream => "the line is not text, or the answer cannot be printed",
-            ScriptError::Memory => "out of memory",
-        })
+        f.write_str(
+            match self {
+                ScriptError::Directive => "no directive has this form",
+                ScriptError::Number => "a field is not a number that fits",
+                ScriptError::Byte => "a byte is not two hexadecimal digits",
+                ScriptError::Stream => "the line is not text, or the answer cannot be printed",
+                ScriptError::Memory => "out of memory",
+            },
+        )
     }
 }
 

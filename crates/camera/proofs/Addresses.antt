@@ -7,7 +7,7 @@ use lib.Dec.{eqb, leb}
 use Rattle.std.specs.declared.result.Result.the-variants.{Ok, Err}
 use Rattle.camera.specs.declared.register.Register.{Register}
 use Rattle.camera.specs.declared.register.Register.the-variants.{Power, Status, Command, Length, Data, Block}
-use Rattle.camera.specs.Registers.{both, lies-in, place-in, register-at, address-of, Exists, One-address, data-base, data-size, block-base, block-size}
+use Rattle.camera.specs.Registers.{lies-in, place-in, register-at, address-of, Exists, One-address, data-base, data-size, block-base, block-size}
 
 back : (register : Register) → Exists register → register-at (address-of register) ≡ Ok register
 back Power h = refl
@@ -29,5 +29,5 @@ pub one-address : (address : ℕ) → One-address address (register-at address)
 one-address address =
     record {
       register-of-address = forth address;
-      address-of-register = λ register exists e. ap register-at e ∙ back register exists
+      address-of-register = λ register exists e. ap register-at e ∙ back register exists;
     }

@@ -14,7 +14,7 @@ use Rattle.camera.specs.declared.attribute.Attribute.{Attribute}
 use Rattle.camera.specs.declared.attribute.Kind.{Kind}
 use Rattle.camera.specs.declared.attribute.Kind.the-variants.{Get, Set, Run}
 use Rattle.camera.specs.declared.command.Command.{Command}
-use Rattle.camera.specs.Registers.{both}
+use Rattle.checks.specs.Tests.{both}
 use Rattle.camera.specs.Attributes.{attributes, attribute-at}
 use Rattle.camera.specs.Commands.{type-bits, kind-of, module-of, protection, directory-place, no-attribute, found-from, attribute-in, is-known, command, command-with, command-of, word-with, word-of, One-word}
 
@@ -56,6 +56,7 @@ found-is place i (x ∷ xs) short e = go (eqb (directory-place (x .base)) place)
   where
     rest : ℕ
     rest = found-from place (suc i) xs
+
     go : (b : Bool) → eqb (directory-place (x .base)) place ≡ b → eqb (cond b i rest) 255 ≡ false →
         (eqb rest 255 ≡ false → Found place (suc i) xs rest) → Found place i (x ∷ xs) (cond b i rest)
     go true is e later = record { k = 0; a = x; is = sym (add-zero i); here = refl; placed = grind (arith, is) }
@@ -145,29 +146,29 @@ unfolding base-is-right
 one-word word =
     record {
       word-of-command = λ c e.
-        let h = is-command word c e in
-        let f = known word (h .there) in
-        let there : attribute-at (c .number) ≡ Some (f .0) = ap attribute-at (sym (h .number)) ∙ f .1 in
-        let right = bases (c .number) (f .0) there in
-        let clear : f .0 .base % 4 ≡ 0 = grind (arith, right) in
-        let short : f .0 .base < 4096 = grind (arith, right) in
-        word-is c (f .0) there
-        ∙ ap Some (word-from word (f .0 .base) (type-bits (c .kind)) (h .high) (bits-kind (word % 4) (c .kind) (h .kind)) clear short (f .2));
+          let h = is-command word c e in
+          let f = known word (h .there) in
+          let there : attribute-at (c .number) ≡ Some (f .0) = ap attribute-at (sym (h .number)) ∙ f .1 in
+          let right = bases (c .number) (f .0) there in
+          let clear : f .0 .base % 4 ≡ 0 = grind (arith, right) in
+          let short : f .0 .base < 4096 = grind (arith, right) in
+          word-is c (f .0) there
+          ∙ ap Some (word-from word (f .0 .base) (type-bits (c .kind)) (h .high) (bits-kind (word % 4) (c .kind) (h .kind)) clear short (f .2));
       command-of-word = λ c e.
-        let f = word-back c word e in
-        let right = bases (c .number) (f .0) (f .1) in
-        let clear : f .0 .base % 4 ≡ 0 = grind (arith, right) in
-        let short : f .0 .base < 4096 = grind (arith, right) in
-        let own : attribute-in (directory-place (f .0 .base)) ≡ c .number = grind (arith, right) in
-        let few : c .number < 255 = grind (arith, right) in
-        let p = parts word (f .0 .base) (type-bits (c .kind)) (protection (module-of (f .0 .base))) clear short (kind-bits (c .kind) .0) (f .2) in
-        command-is word c
-        (record {
-          high = p .high ∙ ap protection (sym (p .mods));
-          there = grind (arith, own, p .place, few);
-          kind = ap kind-of (p .low) ∙ kind-bits (c .kind) .1;
-          number = ap attribute-in (p .place) ∙ own
-        })
+          let f = word-back c word e in
+          let right = bases (c .number) (f .0) (f .1) in
+          let clear : f .0 .base % 4 ≡ 0 = grind (arith, right) in
+          let short : f .0 .base < 4096 = grind (arith, right) in
+          let own : attribute-in (directory-place (f .0 .base)) ≡ c .number = grind (arith, right) in
+          let few : c .number < 255 = grind (arith, right) in
+          let p = parts word (f .0 .base) (type-bits (c .kind)) (protection (module-of (f .0 .base))) clear short (kind-bits (c .kind) .0) (f .2) in
+          command-is word c
+          (record {
+            high = p .high ∙ ap protection (sym (p .mods));
+            there = grind (arith, own, p .place, few);
+            kind = ap kind-of (p .low) ∙ kind-bits (c .kind) .1;
+            number = ap attribute-in (p .place) ∙ own;
+          });
     }
 
 -- The parts of a command word fit sixteen bits together.

@@ -1,3 +1,4 @@
 pub mod Addresses
 pub mod Lists
 pub mod CommandWords
+pub mod Changes

@@ -19,7 +19,7 @@ use Rattle.camera.specs.declared.attribute.Limits.{Limits}
 use Rattle.camera.specs.declared.attribute.Limits.the-variants.{Fixed, Any, AtMost, Between, FocusRegion, Colours}
 use Rattle.camera.specs.declared.attribute.Name.{Name}
 use Rattle.camera.specs.declared.attribute.Name.the-variants.{GainControl, Status, SerialNumber, FpaTemperature, Telemetry, TelemetryPlace, FrameAverage, FramesAveraged, ColourScheme, ColourTable, Focus, Region, Threshold, FlatFieldTarget, OemStatus, FrameMean, PinMode, SyncDelay, UserDefaults, Restore}
-use Rattle.camera.specs.Registers.{both}
+use Rattle.checks.specs.Tests.{both}
 
 -- the sensor's size in pixels
 abbrev pub columns : ℕ

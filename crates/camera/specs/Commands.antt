@@ -11,7 +11,7 @@ use Rattle.camera.specs.declared.attribute.Attribute.{Attribute}
 use Rattle.camera.specs.declared.attribute.Kind.{Kind}
 use Rattle.camera.specs.declared.attribute.Kind.the-variants.{Get, Set, Run}
 use Rattle.camera.specs.declared.command.Command.{Command}
-use Rattle.camera.specs.Registers.{both}
+use Rattle.checks.specs.Tests.{both}
 use Rattle.camera.specs.Attributes.{attributes, attribute-at}
 
 -- the type bits of a kind

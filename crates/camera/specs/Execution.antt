@@ -11,7 +11,7 @@ use Rattle.camera.specs.declared.attribute.Kind.{Kind}
 use Rattle.camera.specs.declared.attribute.Kind.the-variants.{Get, Set, Run}
 use Rattle.camera.specs.declared.attribute.Limits.the-variants.{Fixed}
 use Rattle.camera.specs.declared.command.Command.{Command}
-use Rattle.camera.specs.Registers.{both}
+use Rattle.checks.specs.Tests.{both, first-failing}
 use Rattle.camera.specs.Attributes.{asked, size-of, offers, is-saved, within, user-defaults, restore}
 use Rattle.camera.specs.Commands.{command-of}
 use Rattle.camera.specs.State.{CameraState, Registers, Interpreter, Words, shown, with-registers, with-interpreter, with-busy, with-code, with-words, with-saved}
@@ -78,10 +78,6 @@ is-some None = false
 is-some (Some x) = true
 
 -- A command is judged by tests in order: the first that fails gives the response code.
-abbrev pub first-code : List (Bool × ℤ) → Option ℤ
-first-code [] = None
-first-code (test ∷ tests) = cond (test .0) (first-code tests) (Some (test .1))
-
 abbrev pub command-tests : Kind → ℕ → Registers → Interpreter → List (Bool × ℤ)
 command-tests kind number r i =
     (offers kind number, not-offered)
@@ -92,7 +88,7 @@ command-tests kind number r i =
     ∷ []
 
 unfoldable pub verdict : Kind → ℕ → Registers → Interpreter → Option ℤ
-verdict kind number r i = first-code (command-tests kind number r i)
+verdict kind number r i = first-failing (command-tests kind number r i)
 
 -- the words of one attribute exchanged for others
 unfoldable pub with-one : ℕ → List ℕ → Words → Words

@@ -4,3 +4,4 @@ pub mod Commands
 pub mod State
 pub mod Execution
 pub mod Steps
+pub mod Laws

@@ -5,14 +5,11 @@ use mathlib.Core.Path.{_≡_}
 use lib.Dec.{eqb, leb}
 use Rattle.std.specs.declared.result.Result.{Result}
 use Rattle.std.specs.declared.result.Result.the-variants.{Ok, Err}
+use Rattle.checks.specs.Tests.{both}
 use Rattle.camera.specs.declared.fault.Fault.{Fault}
 use Rattle.camera.specs.declared.fault.Fault.the-variants.{NotAcknowledged, NoRegister}
 use Rattle.camera.specs.declared.register.Register.{Register}
 use Rattle.camera.specs.declared.register.Register.the-variants.{Power, Status, Command, Length, Data, Block}
-
--- both tests hold
-abbrev pub both : Bool → Bool → Bool
-both a b = cond a b false
 
 -- the number of a fault, by which it is known outside
 abbrev pub fault-number : Fault → ℕ
@@ -51,11 +48,11 @@ abbrev pub register-at : ℕ → Result Register Fault
 register-at address =
     cond (eqb address 0x0000) (Ok Power)
     (cond (eqb address 0x0002) (Ok Status)
-      (cond (eqb address 0x0004) (Ok Command)
-        (cond (eqb address 0x0006) (Ok Length)
-          (cond (lies-in data-base data-size address) (Ok (Data (place-in data-base address)))
-            (cond (lies-in block-base block-size address) (Ok (Block (place-in block-base address)))
-              (Err (NoRegister address)))))))
+    (cond (eqb address 0x0004) (Ok Command)
+    (cond (eqb address 0x0006) (Ok Length)
+    (cond (lies-in data-base data-size address) (Ok (Data (place-in data-base address)))
+    (cond (lies-in block-base block-size address) (Ok (Block (place-in block-base address)))
+    (Err (NoRegister address)))))))
 
 -- the address of a register
 abbrev pub address-of : Register → ℕ

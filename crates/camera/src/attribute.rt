@@ -76,45 +76,216 @@ pub struct Attribute {
 
 // The sensor's size in pixels.
 pub const COLUMNS: u16 = 80;
+
 pub const ROWS: u16 = 60;
 
-const G: Kinds = Kinds { gets: true, sets: false, runs: false };
-const GS: Kinds = Kinds { gets: true, sets: true, runs: false };
-const R: Kinds = Kinds { gets: false, sets: false, runs: true };
-const GR: Kinds = Kinds { gets: true, sets: false, runs: true };
-const GSR: Kinds = Kinds { gets: true, sets: true, runs: true };
+const G: Kinds = Kinds {
+    gets: true,
+    sets: false,
+    runs: false,
+};
+
+const GS: Kinds = Kinds {
+    gets: true,
+    sets: true,
+    runs: false,
+};
+
+const R: Kinds = Kinds {
+    gets: false,
+    sets: false,
+    runs: true,
+};
+
+const GR: Kinds = Kinds {
+    gets: true,
+    sets: false,
+    runs: true,
+};
+
+const GSR: Kinds = Kinds {
+    gets: true,
+    sets: true,
+    runs: true,
+};
 
 // The table of attributes. An attribute's number is its place.
 const ATTRIBUTES: [Attribute; 20] = [
-    Attribute { name: Name::GainControl, base: 0x0100, words: 2, kinds: GS, limits: Limits::AtMost(1), start: [0, 0, 0, 0] },
-    Attribute { name: Name::Status, base: 0x0204, words: 4, kinds: G, limits: Limits::Fixed, start: [0, 0, 0, 0] },
-    Attribute { name: Name::SerialNumber, base: 0x0208, words: 4, kinds: G, limits: Limits::Fixed, start: [0, 0, 0, 0] },
-    Attribute { name: Name::FpaTemperature, base: 0x0214, words: 1, kinds: G, limits: Limits::Fixed, start: [0, 0, 0, 0] },
-    Attribute { name: Name::Telemetry, base: 0x0218, words: 2, kinds: GS, limits: Limits::AtMost(1), start: [0, 0, 0, 0] },
-    Attribute { name: Name::TelemetryPlace, base: 0x021C, words: 2, kinds: GS, limits: Limits::AtMost(1), start: [1, 0, 0, 0] },
-    Attribute { name: Name::FrameAverage, base: 0x0220, words: 0, kinds: R, limits: Limits::Fixed, start: [0, 0, 0, 0] },
-    Attribute { name: Name::FramesAveraged, base: 0x0224, words: 2, kinds: GS, limits: Limits::AtMost(7), start: [3, 0, 0, 0] },
-    Attribute { name: Name::ColourScheme, base: 0x0304, words: 2, kinds: GS, limits: Limits::AtMost(8), start: [1, 0, 0, 0] },
-    Attribute { name: Name::ColourTable, base: 0x0308, words: 512, kinds: GS, limits: Limits::Colours, start: [0, 0, 0, 0] },
-    Attribute { name: Name::Focus, base: 0x030C, words: 2, kinds: GS, limits: Limits::AtMost(1), start: [0, 0, 0, 0] },
-    Attribute { name: Name::Region, base: 0x0310, words: 4, kinds: GS, limits: Limits::FocusRegion, start: [1, 1, COLUMNS - 2, ROWS - 2] },
-    Attribute { name: Name::Threshold, base: 0x0314, words: 2, kinds: GS, limits: Limits::Any, start: [30, 0, 0, 0] },
-    Attribute { name: Name::FlatFieldTarget, base: 0x0844, words: 1, kinds: GSR, limits: Limits::AtMost(16383), start: [8192, 0, 0, 0] },
-    Attribute { name: Name::OemStatus, base: 0x0848, words: 2, kinds: G, limits: Limits::Fixed, start: [0, 0, 0, 0] },
-    Attribute { name: Name::FrameMean, base: 0x084C, words: 1, kinds: G, limits: Limits::AtMost(16383), start: [0, 0, 0, 0] },
-    Attribute { name: Name::PinMode, base: 0x0854, words: 2, kinds: GS, limits: Limits::AtMost(5), start: [0, 0, 0, 0] },
-    Attribute { name: Name::SyncDelay, base: 0x0858, words: 2, kinds: GS, limits: Limits::Between(-3, 3), start: [0, 0, 0, 0] },
-    Attribute { name: Name::UserDefaults, base: 0x085C, words: 2, kinds: GR, limits: Limits::Fixed, start: [0, 0, 0, 0] },
-    Attribute { name: Name::Restore, base: 0x0860, words: 0, kinds: R, limits: Limits::Fixed, start: [0, 0, 0, 0] },
+    Attribute {
+        name: Name::GainControl,
+        base: 0x0100,
+        words: 2,
+        kinds: GS,
+        limits: Limits::AtMost(1),
+        start: [0, 0, 0, 0],
+    },
+    Attribute {
+        name: Name::Status,
+        base: 0x0204,
+        words: 4,
+        kinds: G,
+        limits: Limits::Fixed,
+        start: [0, 0, 0, 0],
+    },
+    Attribute {
+        name: Name::SerialNumber,
+        base: 0x0208,
+        words: 4,
+        kinds: G,
+        limits: Limits::Fixed,
+        start: [0, 0, 0, 0],
+    },
+    Attribute {
+        name: Name::FpaTemperature,
+        base: 0x0214,
+        words: 1,
+        kinds: G,
+        limits: Limits::Fixed,
+        start: [0, 0, 0, 0],
+    },
+    Attribute {
+        name: Name::Telemetry,
+        base: 0x0218,
+        words: 2,
+        kinds: GS,
+        limits: Limits::AtMost(1),
+        start: [0, 0, 0, 0],
+    },
+    Attribute {
+        name: Name::TelemetryPlace,
+        base: 0x021C,
+        words: 2,
+        kinds: GS,
+        limits: Limits::AtMost(1),
+        start: [1, 0, 0, 0],
+    },
+    Attribute {
+        name: Name::FrameAverage,
+        base: 0x0220,
+        words: 0,
+        kinds: R,
+        limits: Limits::Fixed,
+        start: [0, 0, 0, 0],
+    },
+    Attribute {
+        name: Name::FramesAveraged,
+        base: 0x0224,
+        words: 2,
+        kinds: GS,
+        limits: Limits::AtMost(7),
+        start: [3, 0, 0, 0],
+    },
+    Attribute {
+        name: Name::ColourScheme,
+        base: 0x0304,
+        words: 2,
+        kinds: GS,
+        limits: Limits::AtMost(8),
+        start: [1, 0, 0, 0],
+    },
+    Attribute {
+        name: Name::ColourTable,
+        base: 0x0308,
+        words: 512,
+        kinds: GS,
+        limits: Limits::Colours,
+        start: [0, 0, 0, 0],
+    },
+    Attribute {
+        name: Name::Focus,
+        base: 0x030C,
+        words: 2,
+        kinds: GS,
+        limits: Limits::AtMost(1),
+        start: [0, 0, 0, 0],
+    },
+    Attribute {
+        name: Name::Region,
+        base: 0x0310,
+        words: 4,
+        kinds: GS,
+        limits: Limits::FocusRegion,
+        start: [1, 1, COLUMNS - 2, ROWS - 2],
+    },
+    Attribute {
+        name: Name::Threshold,
+        base: 0x0314,
+        words: 2,
+        kinds: GS,
+        limits: Limits::Any,
+        start: [30, 0, 0, 0],
+    },
+    Attribute {
+        name: Name::FlatFieldTarget,
+        base: 0x0844,
+        words: 1,
+        kinds: GSR,
+        limits: Limits::AtMost(16383),
+        start: [8192, 0, 0, 0],
+    },
+    Attribute {
+        name: Name::OemStatus,
+        base: 0x0848,
+        words: 2,
+        kinds: G,
+        limits: Limits::Fixed,
+        start: [0, 0, 0, 0],
+    },
+    Attribute {
+        name: Name::FrameMean,
+        base: 0x084C,
+        words: 1,
+        kinds: G,
+        limits: Limits::AtMost(16383),
+        start: [0, 0, 0, 0],
+    },
+    Attribute {
+        name: Name::PinMode,
+        base: 0x0854,
+        words: 2,
+        kinds: GS,
+        limits: Limits::AtMost(5),
+        start: [0, 0, 0, 0],
+    },
+    Attribute {
+        name: Name::SyncDelay,
+        base: 0x0858,
+        words: 2,
+        kinds: GS,
+        limits: Limits::Between(-3, 3),
+        start: [0, 0, 0, 0],
+    },
+    Attribute {
+        name: Name::UserDefaults,
+        base: 0x085C,
+        words: 2,
+        kinds: GR,
+        limits: Limits::Fixed,
+        start: [0, 0, 0, 0],
+    },
+    Attribute {
+        name: Name::Restore,
+        base: 0x0860,
+        words: 0,
+        kinds: R,
+        limits: Limits::Fixed,
+        start: [0, 0, 0, 0],
+    },
 ];
 
 // The numbers of attributes that have rules of their own.
 pub const STATUS: u16 = 1;
+
 pub const SERIAL_NUMBER: u16 = 2;
+
 pub const FPA_TEMPERATURE: u16 = 3;
+
 pub const COLOUR_TABLE: u16 = 9;
+
 pub const FRAME_MEAN: u16 = 15;
+
 pub const USER_DEFAULTS: u16 = 18;
+
 pub const RESTORE: u16 = 19;
 
 impl Attribute {

@@ -29,8 +29,7 @@ impl Kind {
 // A law, with nothing to run: each command of an attribute has one word, and that word asks for no other command.
 fn one_word_law(word: u16)
     ensures stands { λ _. ⌜ One-word word ⌝ }
-{
-}
+{}
 
 // What stands above the module in a command word: the protection bit for module 8, nothing for the others.
 fn protection_of(word: u16) -> u16
@@ -64,6 +63,9 @@ impl Command {
             2 => Kind::Run,
             _ => return None,
         };
-        Some(Command { kind, number: u16::from(number) })
+        Some(Command {
+            kind,
+            number: u16::from(number),
+        })
     }
 }

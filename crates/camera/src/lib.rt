@@ -4,6 +4,7 @@ mod bus;
 mod command;
 mod directory;
 mod fault;
+mod laws;
 mod limits;
 mod register;
 
@@ -15,5 +16,8 @@ pub use attribute::Name;
 pub use bus::Bus;
 pub use command::Command;
 pub use fault::Fault;
+pub use laws::defaults_come_back;
+pub use laws::gets_change_none;
+pub use laws::sets_change_one;
 pub use register::Register;
 pub use register::decode;

@@ -53,7 +53,8 @@ fn span_fits(edge: u16, start: u16, end: u16) -> bool
 fn region_fits(width: u16, height: u16, words: &[u16]) -> bool
     ensures value { λ r. ⌜ r ≡ region-fits width height (now (words .entry)) ⌝ }
 {
-    span_fits(width, word_at(words, 0), word_at(words, 2)) && span_fits(height, word_at(words, 1), word_at(words, 3))
+    span_fits(width, word_at(words, 0), word_at(words, 2))
+        && span_fits(height, word_at(words, 1), word_at(words, 3))
 }
 
 // Whether a word may stand at a place of the colour table: the first word of an entry has a high byte of 0.

@@ -23,8 +23,7 @@ pub enum Register {
 // A law, with nothing to run: each register has one address.
 fn one_address_law(address: u16)
     ensures stands { λ _. ⌜ One-address address (register-at address) ⌝ }
-{
-}
+{}
 
 // The register at an address.
 pub fn decode(address: u16) -> Result<Register, Fault>

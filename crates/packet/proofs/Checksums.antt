@@ -69,5 +69,5 @@ ends-back p bytes long e =
     let low : getD (drop n p) 1 0 ≡ getD p (n + 1) 0 = getD-drop n p 1 0 in
     let word : word-at p n ≡ crc-of (take n p) = grind arith in
     let tail : crc-bytes (crc-of (take n p)) ≡ drop n p =
-      ap be-bytes (sym word) ∙ be-back (byte-at p n) (byte-at p (n + 1)) (bytes n) (bytes (n + 1)) ∙ sym (same ∙ ap₂ (λ x y. x ∷ y ∷ []) high low) in
+    ap be-bytes (sym word) ∙ be-back (byte-at p n) (byte-at p (n + 1)) (bytes n) (bytes (n + 1)) ∙ sym (same ∙ ap₂ (λ x y. x ∷ y ∷ []) high low) in
     sym (ap (λ t. take n p ++ t) tail ∙ take-append-drop n p)

@@ -14,8 +14,9 @@ use Rattle.std.specs.declared.result.Result.the-variants.{Ok}
 use Rattle.crc.specs.Crc.{crc-of, crc-bytes, Bytes}
 use Rattle.packet.specs.declared.PacketRefusal.the-variants.{Length, Start, FrontChecksum, Checksum, Reserved}
 use Rattle.packet.specs.Layout.{Content, process-code, be-bytes, be-word, front, with-checksum, packet}
-use Rattle.packet.specs.Reading.{byte-at, word-at, ends-in-checksum, first-failing, packet-tests, content-in, content-of, judged}
-use Rattle.packet.proofs.Judging.{judged-ok, judged-back, none-fails, all-pass}
+use Rattle.packet.specs.Reading.{byte-at, word-at, ends-in-checksum, packet-tests, content-in, content-of}
+use Rattle.checks.specs.Tests.{first-failing, judged}
+use Rattle.checks.proofs.Passing.{judged-ok, judged-back, none-fails, all-pass}
 use Rattle.packet.proofs.Checksums.{be-back, bytes-take, bytes-drop, length-sealed, sealed-ends, ends-back}
 
 -- the front with its checksum, and the arguments
@@ -76,7 +77,7 @@ module _ (p : List ℕ) (bytes : Bytes p) (long : 10 ≤ length p) where
   front-is start zeroed count =
       let n : word-at p 4 ≡ length (take (length p - 10) (drop 8 p)) = omega (arith, arguments-length) in
       let counted : be-bytes (length (take (length p - 10) (drop 8 p))) ≡ byte-at p 4 ∷ byte-at p 5 ∷ [] =
-        ap be-bytes (sym n) ∙ be-back (byte-at p 4) (byte-at p 5) (bytes 4) (bytes 5) in
+      ap be-bytes (sym n) ∙ be-back (byte-at p 4) (byte-at p 5) (bytes 4) (bytes 5) in
       six-long p (omega arith) ∙ rw (start, zeroed) (ap (λ t. process-code ∷ byte-at p 1 ∷ 0 ∷ byte-at p 3 ∷ t) (sym counted))
 
   eight-is : take 6 p ≡ front (content-in p) → ends-in-checksum (take 8 p) ≡ true → take 8 p ≡ with-checksum (front (content-in p))

@@ -11,6 +11,6 @@ pub over-more : (xs part out : List ℕ) (n : ℕ) → length xs ≡ n → laid 
 over-more xs part out n e =
     let m : ℕ = length part in
     let rest : drop (n + m) (xs ++ drop (length xs) out) ≡ drop (length (xs ++ part)) out =
-      sym (drop-drop m n (xs ++ drop (length xs) out)) ∙ ap (drop m) (drop-at xs (drop (length xs) out) n e)
-      ∙ drop-drop m (length xs) out ∙ ap (λ k. drop k out) (sym (length-append xs part)) in
+    sym (drop-drop m n (xs ++ drop (length xs) out)) ∙ ap (drop m) (drop-at xs (drop (length xs) out) n e)
+    ∙ drop-drop m (length xs) out ∙ ap (λ k. drop k out) (sym (length-append xs part)) in
     ap₂ (λ a b. a ++ (part ++ b)) (take-at xs (drop (length xs) out) n e) rest ∙ sym (append-assoc xs part (drop (length (xs ++ part)) out))

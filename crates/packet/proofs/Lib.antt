@@ -1,4 +1,3 @@
-pub mod Judging
 pub mod Checksums
 pub mod Contents
 pub mod Meanings

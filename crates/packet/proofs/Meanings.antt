@@ -21,8 +21,9 @@ use Rattle.packet.specs.declared.Function.the-variants.{Read, Write}
 use Rattle.packet.specs.declared.Reply.{Reply}
 use Rattle.packet.specs.declared.Reply.the-variants.{Read as ReadReply, Write as WriteReply}
 use Rattle.packet.specs.Layout.{Content, be-bytes, be-word, function-code, request-content, answer-content, reply-content, reply-function}
-use Rattle.packet.specs.Reading.{word-at, request-tests, asked, access-of, reply-tests, reply-fits, answer-count, answered, said, answer-of, both, first-failing}
-use Rattle.packet.proofs.Judging.{judged-back, all-pass, All-pass}
+use Rattle.packet.specs.Reading.{word-at, request-tests, asked, access-of, reply-tests, reply-fits, answer-count, answered, said, answer-of}
+use Rattle.checks.specs.Tests.{All-pass, both, first-failing}
+use Rattle.checks.proofs.Passing.{judged-back, all-pass}
 use Rattle.packet.proofs.Checksums.{be-back, two-long, four-long}
 
 pub access-reads : (access : Access) → access-of (request-content access) ≡ Ok access
@@ -51,10 +52,13 @@ access-only c access bytes e = go (eqb (c .function) 16) refl
   where
     back : (first-failing (request-tests c) ≡ None) × (asked c ≡ access)
     back = judged-back (request-tests c) (asked c) access e
+
     t : All-pass (request-tests c)
     t = all-pass (request-tests c) (back .0)
+
     xs : List ℕ
     xs = c .arguments
+
     go : (b : Bool) → eqb (c .function) 16 ≡ b → c ≡ request-content access
     go true is =
         let f : c .function ≡ 16 = grind (arith, is) in

@@ -37,12 +37,12 @@ pub request-stands : (access : Access) → Request-stands access
 request-stands access =
     record {
       reads-back = reads-back access-of (request-content access) access (access-reads access);
-      no-other = no-other access-of (request-content access) access (λ d bytes e. access-only d access bytes e)
+      no-other = no-other access-of (request-content access) access (λ d bytes e. access-only d access bytes e);
     }
 
 pub reply-stands : (reply : Reply) → Reply-stands reply
 reply-stands reply =
     record {
       reads-back = reads-back (answer-of (reply-function reply)) (reply-content reply) reply (answer-reads reply);
-      no-other = λ function. no-other (answer-of function) (reply-content reply) reply (λ d bytes e. answer-only function d reply bytes e)
+      no-other = λ function. no-other (answer-of function) (reply-content reply) reply (λ d bytes e. answer-only function d reply bytes e);
     }

@@ -10,6 +10,7 @@ use Rattle.std.specs.declared.option.Option.{Option}
 use Rattle.std.specs.declared.option.Option.the-variants.{Some, None}
 use Rattle.std.specs.declared.result.Result.{Result}
 use Rattle.std.specs.declared.result.Result.the-variants.{Ok, Err}
+use Rattle.checks.specs.Tests.{both, judged}
 use Rattle.crc.specs.Crc.{crc-of, Bytes}
 use Rattle.packet.specs.declared.Access.{Access}
 use Rattle.packet.specs.declared.Access.the-variants.{Read as ReadAccess, Write as WriteAccess}
@@ -35,15 +36,6 @@ word-at p i = be-word (byte-at p i) (byte-at p (i + 1))
 unfoldable pub ends-in-checksum : List ℕ → Bool
 ends-in-checksum p = eqb (word-at p (length p - 2)) (crc-of (take (length p - 2) p))
 
--- Reading is judged by tests in order: the first that fails gives the refusal.
-abbrev pub first-failing : List (Bool × PacketRefusal) → Option PacketRefusal
-first-failing [] = None
-first-failing (test ∷ tests) = cond (test .0) (first-failing tests) (Some (test .1))
-
--- the first failing test refuses; what passes them all has this value
-abbrev pub judged : {A : Type 0} → List (Bool × PacketRefusal) → A → Result A PacketRefusal
-judged tests value = elim (first-failing tests) [ None ↦ Ok value | Some refusal ↦ Err refusal ]
-
 -- what every packet has to meet, in this order
 abbrev pub packet-tests : List ℕ → List (Bool × PacketRefusal)
 packet-tests p =
@@ -62,10 +54,6 @@ content-in p = record { status = byte-at p 1; function = byte-at p 3; arguments 
 -- a byte string read as a packet
 abbrev pub content-of : List ℕ → Result Content PacketRefusal
 content-of p = judged (packet-tests p) (content-in p)
-
--- both tests hold
-abbrev pub both : Bool → Bool → Bool
-both a b = cond a b false
 
 -- a function code that is known
 abbrev pub is-function : ℕ → Bool

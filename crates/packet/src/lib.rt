@@ -1,8 +1,8 @@
 // Packets: a register access, and the reply to it, as bytes on a serial line.
 ghost use Prim.Native.Nat.{_+_, _-_, _≤_};
-ghost use Rattle.crc.specs.Crc.{crc-of};
+ghost use Rattle.checks.specs.Tests.{judged};
 ghost use Rattle.packet.specs.Layout.{be-bytes, be-word, buffer-after, content, denial-status, front-bytes, function-code, laid, packet, refusal-number, reply-packet, request-packet, with-checksum, written};
-ghost use Rattle.packet.specs.Reading.{Reply-stands, Request-stands, asked, content-in, ends-in-checksum, judged, packet-tests, reply-of, reply-tests, request-of, request-tests, said};
+ghost use Rattle.packet.specs.Reading.{Reply-stands, Request-stands, asked, content-in, ends-in-checksum, packet-tests, reply-of, reply-tests, request-of, request-tests, said};
 ghost use Rattle.packet.specs.Views.{opened-content, parts-content};
 ghost use Rattle.std.specs.declared.option.Option.the-variants.{Some, None};
 ghost use Rattle.std.specs.declared.result.Result.the-variants.{Ok, Err};
@@ -20,6 +20,7 @@ const ROOM: usize = 14;
 
 // The codes of the functions.
 const READ: u8 = 0x10;
+
 const WRITE: u8 = 0x11;
 
 // One access to a register: what a request asks the far end to do.
@@ -150,7 +151,18 @@ struct Parts<'a> {
 fn opened(packet: &[u8]) -> Result<Parts<'_>, PacketRefusal>
     ensures value { λ r. ⌜ opened-content r ≡ judged (packet-tests (now (packet .entry))) (content-in (now (packet .entry))) ⌝ }
 {
-    let [start, status, reserved, function, count_high, count_low, _, _, rest @ ..] = packet else {
+    let [
+        start,
+        status,
+        reserved,
+        function,
+        count_high,
+        count_low,
+        _,
+        _,
+        rest @ ..,
+    ] = packet
+    else {
         return Err(PacketRefusal::Length);
     };
     if rest.len() < 2 {
@@ -172,7 +184,11 @@ fn opened(packet: &[u8]) -> Result<Parts<'_>, PacketRefusal>
     if *reserved != 0 {
         return Err(PacketRefusal::Reserved);
     }
-    Ok(Parts { status: *status, function: *function, arguments: &rest[0..count] })
+    Ok(Parts {
+        status: *status,
+        function: *function,
+        arguments: &rest[0..count],
+    })
 }
 
 // A packet's content as a request.
@@ -180,9 +196,14 @@ fn access_in(parts: Parts<'_>) -> Result<Access, PacketRefusal>
     ensures value { λ r. ⌜ r ≡ judged (request-tests (parts-content (parts .entry))) (asked (parts-content (parts .entry))) ⌝ }
 {
     match (parts.function, parts.status, parts.arguments) {
-        (READ, 0, [high, low]) => Ok(Access::Read { address: be_word(*high, *low) }),
+        (READ, 0, [high, low]) => Ok(Access::Read {
+            address: be_word(*high, *low),
+        }),
         (WRITE, 0, [high, low, word_high, word_low]) => {
-            Ok(Access::Write { address: be_word(*high, *low), word: be_word(*word_high, *word_low) })
+            Ok(Access::Write {
+                address: be_word(*high, *low),
+                word: be_word(*word_high, *word_low),
+            })
         }
         (READ | WRITE, _, _) => Err(PacketRefusal::Fields),
         _ => Err(PacketRefusal::WrongFunction),
@@ -239,11 +260,25 @@ fn sealed_front(status: u8, function: u8, count: u16) -> [u8; 8]
     let [count_high, count_low] = be_bytes(count);
     let front = [PROCESS_CODE, status, 0, function, count_high, count_low];
     let [front_high, front_low] = be_bytes(checksum(&front));
-    [PROCESS_CODE, status, 0, function, count_high, count_low, front_high, front_low]
+    [
+        PROCESS_CODE,
+        status,
+        0,
+        function,
+        count_high,
+        count_low,
+        front_high,
+        front_low,
+    ]
 }
 
 // Writes the packet of a status, a function and arguments to the front of a buffer, and says how many bytes it has.
-fn write_packet(status: u8, function: u8, arguments: &[u8], buffer: &mut [u8]) -> Result<usize, PacketRefusal>
+fn write_packet(
+    status: u8,
+    function: u8,
+    arguments: &[u8],
+    buffer: &mut [u8],
+) -> Result<usize, PacketRefusal>
     requires { ⌜ length (now arguments) ≤ 4 ⌝ }
     ensures answer { λ r. ⌜ r ≡ written (packet (content status function (now (arguments .entry)))) (now (buffer .entry)) ⌝ }
     ensures after { λ _. ⌜ now (buffer .exit) ≡ buffer-after (packet (content status function (now (arguments .entry)))) (now (buffer .entry)) ⌝ }
@@ -263,14 +298,12 @@ fn write_packet(status: u8, function: u8, arguments: &[u8], buffer: &mut [u8]) -
 // A law, with nothing to run: the packet of an access reads back as that access, and no other byte string does.
 fn request_law(access: Access)
     ensures stands { λ _. ⌜ Request-stands access ⌝ }
-{
-}
+{}
 
 // A law, with nothing to run: the packet of a reply reads back as that reply, and no other byte string does.
 fn reply_law(reply: Reply)
     ensures stands { λ _. ⌜ Reply-stands reply ⌝ }
-{
-}
+{}
 
 // Writes the packet of a request to the front of a buffer of at least 14 bytes, and says how many bytes it has.
 pub fn pack_request(access: Access, buffer: &mut [u8]) -> Result<usize, PacketRefusal>
@@ -284,7 +317,12 @@ pub fn pack_request(access: Access, buffer: &mut [u8]) -> Result<usize, PacketRe
         Access::Write { address, word } => {
             let [address_high, address_low] = be_bytes(address);
             let [word_high, word_low] = be_bytes(word);
-            write_packet(0, WRITE, &[address_high, address_low, word_high, word_low], buffer)
+            write_packet(
+                0,
+                WRITE,
+                &[address_high, address_low, word_high, word_low],
+                buffer,
+            )
         }
     }
 }

@@ -13,5 +13,5 @@ returns c =
     let n = length (c .args .part .now) in
     record {
       after = ap₂ (λ part k. take at b ++ (part ++ drop k (drop at b))) (c .copy-from-slice .ensures .after) (add-sub-cancel-left at n)
-        ∙ ap (λ rest. take at b ++ (c .args .part .now ++ rest)) (drop-drop n at b)
+          ∙ ap (λ rest. take at b ++ (c .args .part .now ++ rest)) (drop-drop n at b);
     }

@@ -9,8 +9,9 @@ use Rattle.std.specs.declared.result.Result.{Result}
 use Rattle.std.specs.declared.result.Result.the-variants.{Ok}
 use Rattle.packet.specs.declared.PacketRefusal.{PacketRefusal}
 use Rattle.packet.specs.Layout.{Content}
-use Rattle.packet.specs.Reading.{byte-at, content-in, first-failing, packet-tests}
-use Rattle.packet.proofs.Judging.{judged-ok}
+use Rattle.packet.specs.Reading.{byte-at, content-in, packet-tests}
+use Rattle.checks.specs.Tests.{first-failing}
+use Rattle.checks.proofs.Passing.{judged-ok}
 use Rattle.packet.proofs.opened.Needs as need
 
 -- the slice pattern's rest without its last two bytes, as the arguments stand in the packet

@@ -13,5 +13,5 @@ returns c =
     let counted : c .be-bytes .result ≡ be-bytes (c .args .count) = c .be-bytes .ensures .value in
     let six : List ℕ → List ℕ = λ count. process-code ∷ c .args .status ∷ 0 ∷ c .args .function ∷ getD count 0 0 ∷ getD count 1 0 ∷ [] in
     let crc : c .be-bytes-2 .result ≡ crc-bytes (crc-of (front-bytes (c .args .status) (c .args .function) (c .args .count))) =
-      c .be-bytes-2 .ensures .value ∙ ap be-bytes (c .checksum .ensures .value ∙ ap (λ x. crc-of (six x)) counted) in
+    c .be-bytes-2 .ensures .value ∙ ap be-bytes (c .checksum .ensures .value ∙ ap (λ x. crc-of (six x)) counted) in
     record { value = ap₂ line counted crc }

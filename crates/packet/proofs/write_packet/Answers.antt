@@ -29,19 +29,19 @@ returns c =
     let p : Content = content (c .args .status) (c .args .function) (c .args .arguments .now) in
     let n : ℕ = length (c .args .arguments .now) in
     let l1 : c .lay .last .buffer ≡ over (with-checksum (front p)) b =
-      c .lay .ensures .after ∙ ap (laid b 0) (c .sealed-front .ensures .value) ∙ over-more [] (with-checksum (front p)) b 0 refl in
+    c .lay .ensures .after ∙ ap (laid b 0) (c .sealed-front .ensures .value) ∙ over-more [] (with-checksum (front p)) b 0 refl in
     let l2 : c .lay-2 .last .buffer ≡ over (body p) b =
-      c .lay-2 .ensures .after ∙ ap (λ x. laid x 8 (c .args .arguments .now)) l1
-      ∙ over-more (with-checksum (front p)) (c .args .arguments .now) b 8 (length-sealed (front p)) in
+    c .lay-2 .ensures .after ∙ ap (λ x. laid x 8 (c .args .arguments .now)) l1
+    ∙ over-more (with-checksum (front p)) (c .args .arguments .now) b 8 (length-sealed (front p)) in
     let crc : c .checksum-crc .result ≡ crc-of (body p) =
-      c .checksum-crc .ensures .value ∙ ap₂ (λ k x. crc-of (take k x)) (sub-zero (8 + n)) l2
-      ∙ ap crc-of (take-at (body p) (drop (length (body p)) b) (8 + n) (body-length p)) in
+    c .checksum-crc .ensures .value ∙ ap₂ (λ k x. crc-of (take k x)) (sub-zero (8 + n)) l2
+    ∙ ap crc-of (take-at (body p) (drop (length (body p)) b) (8 + n) (body-length p)) in
     let l3 : c .lay-3 .last .buffer ≡ over (packet p) b =
-      c .lay-3 .ensures .after ∙ ap₂ (λ x y. laid x (8 + n) y) l2 (c .be-bytes .ensures .value ∙ ap be-bytes crc)
-      ∙ over-more (body p) (crc-bytes (crc-of (body p))) b (8 + n) (body-length p) ∙ ap (λ x. over x b) (sealed p) in
+    c .lay-3 .ensures .after ∙ ap₂ (λ x y. laid x (8 + n) y) l2 (c .be-bytes .ensures .value ∙ ap be-bytes crc)
+    ∙ over-more (body p) (crc-bytes (crc-of (body p))) b (8 + n) (body-length p) ∙ ap (λ x. over x b) (sealed p) in
     let room : ltb (length b) 14 ≡ false = grind arith in
     let size : 8 + n + 2 ≡ length (packet p) = omega (arith, packet-length p) in
     record {
       answer = ap Ok size ∙ sym (ap (λ short. cond short (Err Buffer) (Ok (length (packet p)))) room);
-      after = l3 ∙ sym (ap (λ short. cond short b (over (packet p) b)) room)
+      after = l3 ∙ sym (ap (λ short. cond short b (over (packet p) b)) room);
     }

@@ -6,7 +6,7 @@ use native.Mathlib.Numerals.{add-one}
 use native.Mathlib.Omega.{arith}
 use lib.ListN.{length, getD, drop}
 use Rattle.std.proofs.shelf.Lists.{at-drop-more, at-drop-all}
-use Rattle.camera.specs.Registers.{both}
+use Rattle.checks.specs.Tests.{both}
 use Rattle.camera.specs.Attributes.{colour-fits, colours-fit}
 use Rattle.camera.proofs.limits.colours_fit.Needs as need
 
