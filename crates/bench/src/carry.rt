@@ -5,6 +5,10 @@ use crate::error::ScriptErrorFromAlloc;
 use crate::error::ScriptErrorFromIo;
 use crate::hex::HexBytes;
 use crate::hex::HexBytesDisplay;
+use crate::hex::HexWords;
+use crate::hex::HexWordsDisplay;
+use crate::value::Value;
+use crate::value::ValueDisplay;
 use crc::checksum;
 use packet::Access;
 use packet::Denial;
@@ -14,6 +18,7 @@ use packet::pack_reply;
 use packet::pack_request;
 use packet::unpack_reply;
 use packet::unpack_request;
+use words::WrongSize;
 
 // The largest packet.
 const LARGEST_PACKET: usize = 14;
@@ -39,6 +44,12 @@ pub(crate) fn carry_out(rt: &LibcRuntime, directive: Directive) -> Result<(), Sc
             rt,
             unpack_reply(function, bytes.as_slice()),
         )?,
+        Directive::Put(value) => {
+            let words = value.put(rt.alloc())?;
+            let shown = HexWords(words.as_slice());
+            println!(rt, "put :{shown}")?;
+        }
+        Directive::Take(kind, words) => print_taken(rt, kind.take(words.as_slice()))?,
     }
     Ok(())
 }
@@ -102,6 +113,17 @@ fn print_reply(rt: &LibcRuntime, answer: Result<Reply, PacketRefusal>) -> Result
         Err(refusal) => {
             let number = refusal.number();
             println!(rt, "unpack-reply refused {number}")?;
+        }
+    }
+    Ok(())
+}
+
+fn print_taken(rt: &LibcRuntime, answer: Result<Value, WrongSize>) -> Result<(), ScriptError> {
+    match answer {
+        Ok(value) => println!(rt, "take {value}")?,
+        Err(refusal) => {
+            let number = refusal.number();
+            println!(rt, "take refused {number}")?;
         }
     }
     Ok(())

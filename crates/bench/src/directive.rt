@@ -4,6 +4,9 @@ use crate::error::ScriptErrorFromAlloc;
 use crate::fields::bytes;
 use crate::fields::size;
 use crate::fields::word;
+use crate::fields::words;
+use crate::value::Value;
+use crate::value::ValueKind;
 use packet::Access;
 use packet::Denial;
 use packet::Function;
@@ -22,6 +25,10 @@ pub(crate) enum Directive {
     UnpackRequest(Vec<u8>),
     // bytes read as the reply to a function
     UnpackReply(Function, Vec<u8>),
+    // the words of a value
+    Put(Value),
+    // the value of words
+    Take(ValueKind, Vec<u16>),
 }
 
 // The directive of a line, or none if the line is blank or a comment.
@@ -53,6 +60,8 @@ fn parse(heap: Global, name: &str, fields: &[&str]) -> Result<Directive, ScriptE
             Function::Write,
             bytes(heap, rest)?,
         )),
+        ("put", [kind, value]) => Ok(Directive::Put(ValueKind::parse(kind)?.value(heap, value)?)),
+        ("take", [kind, rest @ ..]) => Ok(Directive::Take(ValueKind::parse(kind)?, words(heap, rest)?)),
         _ => Err(ScriptError::Directive),
     }
 }

@@ -30,6 +30,40 @@ pub(crate) fn word(text: &str) -> Result<u16, ScriptError> {
     }
 }
 
+// A number of 32 bits.
+pub(crate) fn wide_number(text: &str) -> Result<u32, ScriptError> {
+    match u32::try_from(number(text)?) {
+        Ok(n) => Ok(n),
+        Err(_) => Err(ScriptError::Number),
+    }
+}
+
+// A number of 64 bits.
+pub(crate) fn long_number(text: &str) -> Result<u64, ScriptError> {
+    number(text)
+}
+
+// A signed number of 32 bits: a number, or one behind a minus sign.
+pub(crate) fn signed_number(text: &str) -> Result<i32, ScriptError> {
+    let parsed = match text.strip_prefix("-") {
+        Some(digits) => i32::try_from(-i128::from(number(digits)?)),
+        None => i32::try_from(i128::from(number(text)?)),
+    };
+    match parsed {
+        Ok(n) => Ok(n),
+        Err(_) => Err(ScriptError::Number),
+    }
+}
+
+// The words of the remaining fields.
+pub(crate) fn words(heap: Global, fields: &[&str]) -> Result<Vec<u16>, ScriptError> {
+    let mut all = Vec::new(heap);
+    for field in fields {
+        all.push(word(field)?)?;
+    }
+    Ok(all)
+}
+
 // The size of a buffer.
 pub(crate) fn size(text: &str) -> Result<usize, ScriptError>
     ensures bound { λ r. ⌜ made r (λ n. n ≤ 1024) ⌝ }

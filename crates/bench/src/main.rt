@@ -4,6 +4,7 @@ mod directive;
 mod error;
 mod fields;
 mod hex;
+mod value;
 
 use carry::carry_out;
 use directive::parse_line;
