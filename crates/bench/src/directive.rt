@@ -61,7 +61,10 @@ fn parse(heap: Global, name: &str, fields: &[&str]) -> Result<Directive, ScriptE
             bytes(heap, rest)?,
         )),
         ("put", [kind, value]) => Ok(Directive::Put(ValueKind::parse(kind)?.value(heap, value)?)),
-        ("take", [kind, rest @ ..]) => Ok(Directive::Take(ValueKind::parse(kind)?, words(heap, rest)?)),
+        ("take", [kind, rest @ ..]) => Ok(Directive::Take(
+            ValueKind::parse(kind)?,
+            words(heap, rest)?,
+        )),
         _ => Err(ScriptError::Directive),
     }
 }

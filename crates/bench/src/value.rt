@@ -114,7 +114,12 @@ pub(crate) impl fmt::Display for Value as ValueDisplay {
             Value::Signed(value) => write!(f, "{value}"),
             Value::Quad(value) => write!(f, "{value}"),
             Value::Region(region) => {
-                let Region { start_column, start_row, end_column, end_row } = region;
+                let Region {
+                    start_column,
+                    start_row,
+                    end_column,
+                    end_row,
+                } = region;
                 write!(f, "{start_column},{start_row},{end_column},{end_row}")
             }
         }

@@ -21,10 +21,12 @@ use Rattle.checks.specs.Tests.{both, first-failing, All-pass}
 use Rattle.checks.proofs.Passing.{all-pass, refusal-among}
 use Rattle.camera.specs.Execution.{already-saved, answered, carried-out, command-tests, commanded, executed, is-some, judged, not-offered, nothing-saved, only-saved, out-of-limits, put-back, restore-done, restored, save-done, standing, taken, verdict, with-one, wrong-size}
 use Rattle.camera.specs.declared.fault.Fault.{Fault}
+use Rattle.camera.specs.declared.mode.Mode.{Mode}
+use Rattle.camera.specs.declared.mode.Mode.the-variants.{Hung, Booting, Busy, Idle}
 use Rattle.camera.specs.declared.register.Register.{Register}
 use Rattle.camera.specs.declared.register.Register.the-variants.{Power, Status, Command, Length, Data, Block}
 use Rattle.camera.specs.Registers.{register-at}
-use Rattle.camera.specs.Steps.{Mode, hangs, boots, works, idles, Outcome, access, after-read, after-write, at-status, marked, mode, next-ack, read-effect, read-step, unless-unacknowledged, write-effect, write-step}
+use Rattle.camera.specs.Steps.{Outcome, access, after-read, after-write, at-status, marked, mode, next-ack, read-effect, read-step, unless-unacknowledged, write-effect, write-step}
 use Rattle.camera.specs.Laws.{Access, reads, writes, words-of, Carried-out, Set-changes-one, Sets-change-one, Get-changes-none, Gets-change-none, Comes-back, Defaults-come-back, after}
 
 -- the state after a command word that asks for a command
@@ -109,15 +111,15 @@ commanded-kept saved word s kept = go (command-of word)
 
 written-kept : (saved : Words) (m : Mode) (register : Register) (word : ℕ) (s : CameraState) → Kept saved s → Kept saved (after-write m register word s)
 unfolding Kept
-written-kept saved hangs register word s kept = kept
-written-kept saved (boots left) register word s kept = kept
-written-kept saved (works left) register word s kept = kept
-written-kept saved idles Power word s kept = kept
-written-kept saved idles Status word s kept = kept
-written-kept saved idles Command word s kept = commanded-kept saved word s kept
-written-kept saved idles Length word s kept = kept
-written-kept saved idles (Data place) word s kept = kept
-written-kept saved idles (Block place) word s kept = kept
+written-kept saved Hung register word s kept = kept
+written-kept saved (Booting left) register word s kept = kept
+written-kept saved (Busy left) register word s kept = kept
+written-kept saved Idle Power word s kept = kept
+written-kept saved Idle Status word s kept = kept
+written-kept saved Idle Command word s kept = commanded-kept saved word s kept
+written-kept saved Idle Length word s kept = kept
+written-kept saved Idle (Data place) word s kept = kept
+written-kept saved Idle (Block place) word s kept = kept
 
 -- what holds of a state at every register
 at-status-either : {A : Type 0} (P : A → Type 0) (register : Register) (x y : A) → P x → P y → P (at-status register x y)
@@ -130,10 +132,10 @@ at-status-either P (Block place) x y px py = py
 
 read-kept : (saved : Words) (m : Mode) (register : Register) (s : CameraState) → Kept saved s → Kept saved (after-read m register s)
 unfolding Kept
-read-kept saved hangs register s kept = kept
-read-kept saved (boots left) register s kept = at-status-either (λ t. t .interpreter .saved ≡ Some saved) register (with-boot left s) s kept kept
-read-kept saved (works left) register s kept = at-status-either (λ t. t .interpreter .saved ≡ Some saved) register (with-busy left s) s kept kept
-read-kept saved idles register s kept = kept
+read-kept saved Hung register s kept = kept
+read-kept saved (Booting left) register s kept = at-status-either (λ t. t .interpreter .saved ≡ Some saved) register (with-boot left s) s kept kept
+read-kept saved (Busy left) register s kept = at-status-either (λ t. t .interpreter .saved ≡ Some saved) register (with-busy left s) s kept kept
+read-kept saved Idle register s kept = kept
 
 -- What holds with a mark used up, and after the effect on every register, holds after an access.
 pub access-after : {A : Type 0} (P : CameraState → Type 0) (found : Result Register Fault) (address : ℕ) (s : CameraState)

@@ -5,11 +5,11 @@ use mathlib.Core.List.{List, [], _∷_}
 use mathlib.Core.Path.{_≡_}
 use lib.Dec.{eqb}
 use lib.IntN.{ℤ}
-use lib.ListN.{length, getD}
 use mir.Syntax.{w8}
 use mir.Val.{SFits}
 use Rattle.std.specs.declared.option.Option.{Option}
 use Rattle.std.specs.declared.option.Option.the-variants.{Some, None}
+use Rattle.words.specs.Words.{Words as Filled}
 use Rattle.camera.specs.Registers.{data-size, block-size}
 use Rattle.camera.specs.Attributes.{size-of, is-saved, status, user-defaults}
 
@@ -41,11 +41,6 @@ pub record CameraState : Type 0 where
   pub acks : List Bool
   pub registers : Registers
   pub interpreter : Interpreter
-
--- n words of sixteen bits
-pub record Filled (n : ℕ) (ws : List ℕ) : Type 0 where
-  pub size : length ws ≡ n
-  pub bits : (i : ℕ) → getD ws i 0 < 65536
 
 -- whether something is saved, as a number
 abbrev pub saved-flag : Option Words → ℕ

@@ -10,6 +10,8 @@ use Rattle.std.specs.declared.result.Result.{Result}
 use Rattle.std.specs.declared.result.Result.the-variants.{Ok, Err}
 use Rattle.camera.specs.declared.fault.Fault.{Fault}
 use Rattle.camera.specs.declared.fault.Fault.the-variants.{NotAcknowledged}
+use Rattle.camera.specs.declared.mode.Mode.{Mode}
+use Rattle.camera.specs.declared.mode.Mode.the-variants.{Hung, Booting, Busy, Idle}
 use Rattle.camera.specs.declared.register.Register.{Register}
 use Rattle.camera.specs.declared.register.Register.the-variants.{Power, Status, Command, Length, Data, Block}
 use Rattle.camera.specs.Registers.{register-at}
@@ -24,19 +26,12 @@ pub record Outcome (S A E : Type 0) : Type 0 where
 abbrev pub ended : {S A E : Type 0} → Result A E → S → Outcome S A E
 ended r s = record { answer = r; after = s }
 
--- What a camera does with an access depends on its mode: it hangs, boots with some polls left, is busy with some polls
--- left, or is idle. (The polls left are those after the next one.)
-pub data Mode : Type 0 where
-  hangs : Mode
-  boots : ℕ → Mode
-  works : ℕ → Mode
-  idles : Mode
-
+-- What a camera does with an access depends on its mode.
 abbrev pub mode-of : Bool → ℕ → ℕ → Mode
-mode-of true boot busy = hangs
-mode-of false (suc boot) busy = boots boot
-mode-of false zero (suc busy) = works busy
-mode-of false zero zero = idles
+mode-of true boot busy = Hung
+mode-of false (suc boot) busy = Booting boot
+mode-of false zero (suc busy) = Busy busy
+mode-of false zero zero = Idle
 
 abbrev pub mode : CameraState → Mode
 mode s = mode-of (s .hung) (s .boot) (s .busy)
@@ -74,17 +69,17 @@ held (Block place) s = getD (s .registers .block-words) place 0
 
 -- an acknowledged read: the word
 abbrev pub word-read : Mode → Register → CameraState → ℕ
-word-read hangs register s = at-status register hung-status 0
-word-read (boots left) register s = at-status register boot-status 0
-word-read (works left) register s = at-status register busy-status 0
-word-read idles register s = held register s
+word-read Hung register s = at-status register hung-status 0
+word-read (Booting left) register s = at-status register boot-status 0
+word-read (Busy left) register s = at-status register busy-status 0
+word-read Idle register s = held register s
 
 -- an acknowledged read: the state after it
 abbrev pub after-read : Mode → Register → CameraState → CameraState
-after-read hangs register s = s
-after-read (boots left) register s = at-status register (with-boot left s) s
-after-read (works left) register s = at-status register (with-busy left s) s
-after-read idles register s = s
+after-read Hung register s = s
+after-read (Booting left) register s = at-status register (with-boot left s) s
+after-read (Busy left) register s = at-status register (with-busy left s) s
+after-read Idle register s = s
 
 -- what a write to a register of an idle camera leaves
 abbrev pub stored : Register → ℕ → CameraState → CameraState
@@ -100,10 +95,10 @@ stored (Block place) word s =
 
 -- an acknowledged write: the state after it. A write while the camera boots or is busy hangs it.
 abbrev pub after-write : Mode → Register → ℕ → CameraState → CameraState
-after-write hangs register word s = s
-after-write (boots left) register word s = hanging s
-after-write (works left) register word s = hanging s
-after-write idles register word s = stored register word s
+after-write Hung register word s = s
+after-write (Booting left) register word s = hanging s
+after-write (Busy left) register word s = hanging s
+after-write Idle register word s = stored register word s
 
 -- Each access to a register uses up the next acknowledgement mark. Past the end of the marks it is acknowledged.
 abbrev pub next-ack : List Bool → Bool

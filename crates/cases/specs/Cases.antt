@@ -58,7 +58,7 @@ idle-after last =
       busy = 0;
       acks = [];
       registers = record { size = 0; data-words = []; block-words = [] };
-      interpreter = record { code = last; count = 0; words = start-words; saved = None; coming = [] }
+      interpreter = record { code = last; count = 0; words = start-words; saved = None; coming = [] };
     }
 
 -- a case: what the definitions give, and what is expected
