@@ -36,7 +36,6 @@ commanded-is s word c e = ap (λ o. executed o (taken s)) e
 
 -- a refused command's code is not 0
 refusing : (kind : Kind) (number : ℕ) (s : CameraState) (code : ℤ) → verdict kind number (s .registers) (s .interpreter) ≡ Some code → code ≡ pos 0 → ⊥
-unfolding verdict
 refusing kind number s code e =
     refusal-among (λ c. c ≡ pos 0 → ⊥) (command-tests kind number (s .registers) (s .interpreter)) code
     (λ z. grind arith, (λ z. grind arith, (λ z. grind arith, (λ z. grind arith, (λ z. grind arith, tt))))) e
@@ -76,7 +75,7 @@ Kept : Words → CameraState → Type 0
 Kept saved s = s .interpreter .saved ≡ Some saved
 
 run-kept : (saved : Words) (number : ℕ) (s : CameraState) → Kept saved s → verdict Run number (s .registers) (s .interpreter) ≡ None → Kept saved (carried-out Run number (answered (pos 0) s))
-unfolding verdict Kept
+unfolding Kept
 run-kept saved number s kept v = go (eqb number user-defaults) (eqb number restore) refl
   where
     t : CameraState

@@ -16,22 +16,8 @@ use Rattle.camera.specs.declared.attribute.Kind.the-variants.{Get, Set, Run}
 use Rattle.camera.specs.declared.command.Command.{Command}
 use Rattle.checks.specs.Tests.{both}
 use Rattle.camera.specs.Attributes.{attributes, attribute-at}
+use Rattle.camera.proofs.Lists.{every-at}
 use Rattle.camera.specs.Commands.{type-bits, kind-of, module-of, protection, directory-place, no-attribute, found-from, attribute-in, is-known, command, command-with, command-of, word-with, word-of, One-word}
-
--- a test of the places and entries of a list, counted from one on
-abbrev every : {A : Type 0} → (ℕ → A → Bool) → ℕ → List A → Bool
-every f i [] = true
-every f i (x ∷ xs) = both (f i x) (every f (suc i) xs)
-
-every-at : {A : Type 0} (f : ℕ → A → Bool) (i : ℕ) (xs : List A) → every f i xs ≡ true → (k : ℕ) (x : A) → nth xs k ≡ Some x → f (i + k) x ≡ true
-every-at f i [] all k x e = grind arith
-every-at f i (y ∷ xs) all zero x e =
-    let here : f i y ≡ true = grind (arith, all) in
-    let same : y ≡ x = grind arith in
-    ap₂ f (add-zero i) (sym same) ∙ here
-every-at f i (y ∷ xs) all (suc k) x e =
-    let rest : every f (suc i) xs ≡ true = grind (arith, all) in
-    ap (λ n. f n x) (add-suc i k ∙ sym (suc-add i k)) ∙ every-at f (suc i) xs rest k x e
 
 -- Bases have no type bits and nothing above the module, and each stands in the directory for its own attribute alone.
 base-is-right : ℕ → Attribute → Bool

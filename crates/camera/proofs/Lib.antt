@@ -2,3 +2,4 @@ pub mod Addresses
 pub mod Lists
 pub mod CommandWords
 pub mod Changes
+pub mod Sizes

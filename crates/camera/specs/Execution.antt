@@ -87,7 +87,7 @@ command-tests kind number r i =
     ∷ (not (both (both (is-run kind) (eqb number restore)) (not (is-some (i .saved)))), nothing-saved)
     ∷ []
 
-unfoldable pub verdict : Kind → ℕ → Registers → Interpreter → Option ℤ
+abbrev pub verdict : Kind → ℕ → Registers → Interpreter → Option ℤ
 verdict kind number r i = first-failing (command-tests kind number r i)
 
 -- the words of one attribute exchanged for others

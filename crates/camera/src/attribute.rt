@@ -1,5 +1,6 @@
 // The attributes of a camera: what it keeps behind its command words.
-ghost use Rattle.camera.specs.Attributes.{attribute-at, has, is-saved, is-settable};
+ghost use Rattle.camera.specs.Attributes.{attribute-at, has, is-saved, is-settable, size-of};
+ghost use Prim.Native.Nat.{_≤_};
 ghost use mathlib.Core.Path.{_≡_};
 
 // What a command does: it gets or sets an attribute, or runs what the attribute stands for.
@@ -305,6 +306,24 @@ impl Attribute {
             Kind::Set => self.kinds.sets,
             Kind::Run => self.kinds.runs,
         }
+    }
+}
+
+// A law, with nothing to run: no attribute has more words than the block buffer.
+fn size_law(number: u16)
+    ensures bound { λ _. ⌜ size-of number ≤ 512 ⌝ }
+{
+}
+
+// How many words the attribute of a number has: 512 at most, and none where there is no attribute.
+pub fn size_of(number: u16) -> usize
+    ensures value { λ r. ⌜ r ≡ size-of number ⌝ }
+    ensures bound { λ r. ⌜ r ≤ 512 ⌝ }
+{
+    size_law(number);
+    match Attribute::of(number) {
+        Some(found) => usize::from(found.words),
+        None => 0,
     }
 }
 

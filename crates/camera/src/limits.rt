@@ -26,7 +26,7 @@ impl Limits {
 }
 
 // The word at a place, or 0 past the end.
-fn word_at(words: &[u16], place: usize) -> u16
+pub fn word_at(words: &[u16], place: usize) -> u16
     ensures value { λ r. ⌜ r ≡ getD (now (words .entry)) place 0 ⌝ }
 {
     if place < words.len() { words[place] } else { 0 }

@@ -1,0 +1,7 @@
+// A simulated camera head: a bus that keeps the camera's state itself.
+mod access;
+mod inner;
+mod memory;
+mod queue;
+
+pub use memory::Head;
