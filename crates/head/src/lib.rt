@@ -1,5 +1,6 @@
 // A simulated camera head: a bus that keeps the camera's state itself.
 mod access;
+mod execution;
 mod inner;
 mod memory;
 mod queue;
