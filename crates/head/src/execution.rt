@@ -1,11 +1,10 @@
 // Carrying out commands.
-ghost use Prim.Native.Nat.{_≤_, _<_};
-ghost use Rattle.camera.specs.Attributes.{size-of};
+ghost use Prim.Native.Nat.{_≤_};
 ghost use Rattle.camera.specs.Execution.{lawful, moved, over, standing, taken, verdict};
-ghost use Rattle.head.specs.Meaning.{blank, head-state, registers-in};
-ghost use lib.ListN.{getD, length};
+ghost use Rattle.head.specs.Meaning.{head-state, registers-in};
+ghost use Rattle.words.specs.Words.{Words};
+ghost use lib.ListN.{length};
 ghost use mathlib.Core.Path.{_≡_};
-use crate::inner::Record;
 use crate::memory::Head;
 use camera::Attribute;
 use camera::Command;
@@ -23,7 +22,7 @@ const ALREADY_SAVED: i8 = -15;
 const NOTHING_SAVED: i8 = -18;
 
 // How many attributes pass through the data registers: those of up to so many words.
-const DATA_WORDS: usize = 16;
+pub(crate) const DATA_WORDS: usize = 16;
 
 // How many words a command moves.
 fn words_moved(command: Command) -> usize
@@ -36,9 +35,10 @@ fn words_moved(command: Command) -> usize
 }
 
 // Lays words over the front of others.
-fn lay(target: &mut [u16], words: &[u16])
+pub(crate) fn lay(target: &mut [u16], words: &[u16])
     requires { ⌜ length (now words) ≤ length (now target) ⌝ }
     ensures after { λ _. ⌜ now (target .exit) ≡ over (now (words .entry)) (now (target .entry)) ⌝ }
+    ensures full { λ _. ⌜ Words (length (now (target .entry))) (now (target .exit)) ⌝ }
 {
     let size = words.len();
     target[0..size].copy_from_slice(words);

@@ -1,7 +1,9 @@
 // What a head holds: its registers and its table of attributes, as plain memory.
 ghost use Prim.Native.Nat.{_<_};
 ghost use Rattle.words.specs.Words.{Words};
+ghost use lib.ListN.{length};
 ghost use lib.Signed.{mag};
+ghost use mathlib.Core.Path.{_≡_};
 
 // A record of the table of attributes: the attribute's words, in memory for as many as the largest one has.
 #[derive(Clone, Copy)]
@@ -32,6 +34,7 @@ pub(crate) struct Inner {
     pub(crate) records: [Record; 20],
     // the records when the user defaults were saved, if they were
     pub(crate) saved: Option<[Record; 20]>,
+    ghost table_full: { length records ≡ 20 },
     ghost code_bits: { mag code < 128 },
     ghost count_bits: { count < 65536 },
     ghost size_bits: { size < 65536 },

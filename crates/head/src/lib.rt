@@ -4,5 +4,6 @@ mod execution;
 mod inner;
 mod memory;
 mod queue;
+mod table;
 
 pub use memory::Head;
