@@ -11,6 +11,7 @@ use Rattle.camera.specs.Execution.{only-saved}
 use Rattle.camera.specs.State.{CameraState, Registers, Interpreter, Words}
 use Rattle.head.specs.declared.inner.Inner.{Inner}
 use Rattle.head.specs.declared.inner.Record.{Record}
+use Rattle.head.specs.declared.inner.Table.{Table}
 use Rattle.head.specs.declared.memory.Head.{Head}
 use Rattle.head.specs.Queues.{left}
 
@@ -28,9 +29,9 @@ unfoldable pub words-in : List Record → Words
 words-in records = λ number. take (size-of number) (getD records number blank .words)
 
 -- the user defaults, of which only the saved attributes count
-abbrev pub saved-in : Option (List Record) → Option Words
+abbrev pub saved-in : Option Table → Option Words
 saved-in None = None
-saved-in (Some records) = Some (only-saved (words-in records))
+saved-in (Some table) = Some (only-saved (words-in (table .records)))
 
 abbrev pub registers-in : Inner → Registers
 registers-in inner = record { size = inner .size; data-words = inner .«data»; block-words = inner .block }
@@ -47,7 +48,7 @@ head-state head =
       interpreter = record {
         code = head .inner .code;
         count = head .inner .count;
-        words = words-in (head .inner .records);
+        words = words-in (head .inner .table .records);
         saved = saved-in (head .inner .saved);
         coming = left (head .coming)
       }

@@ -1,5 +1,6 @@
 // Carrying out commands.
 ghost use Prim.Native.Nat.{_≤_};
+ghost use Rattle.camera.specs.Attributes.{size-of};
 ghost use Rattle.camera.specs.Execution.{lawful, moved, over, standing, taken, verdict};
 ghost use Rattle.head.specs.Meaning.{head-state, registers-in};
 ghost use Rattle.words.specs.Words.{Words};
@@ -54,8 +55,10 @@ impl Head {
     }
 
     // The words of an attribute that stand in the registers.
-    fn standing(&self, number: u16) -> &[u16]
+    pub(crate) fn standing(&self, number: u16) -> &[u16]
         ensures value { λ r. ⌜ now r ≡ standing number (registers-in (now (self .entry) .inner)) ⌝ }
+        ensures size { λ r. ⌜ length (now r) ≡ size-of number ⌝ }
+        ensures bound { λ r. ⌜ length (now r) ≤ 512 ⌝ }
     {
         let size = size_of(number);
         if size <= DATA_WORDS {

@@ -12,6 +12,13 @@ pub(crate) struct Record {
     ghost full: { Words 512 words },
 }
 
+// The table of attributes: a record for each, by number.
+#[derive(Clone, Copy)]
+pub(crate) struct Table {
+    pub(crate) records: [Record; 20],
+    ghost full: { length records ≡ 20 },
+}
+
 // The registers, the table of attributes, and the rest of the camera's state but for what is to come.
 #[derive(Clone, Copy)]
 pub(crate) struct Inner {
@@ -30,11 +37,9 @@ pub(crate) struct Inner {
     pub(crate) data: [u16; 16],
     // the block buffer
     pub(crate) block: [u16; 512],
-    // the attributes, by number
-    pub(crate) records: [Record; 20],
-    // the records when the user defaults were saved, if they were
-    pub(crate) saved: Option<[Record; 20]>,
-    ghost table_full: { length records ≡ 20 },
+    pub(crate) table: Table,
+    // the table when the user defaults were saved, if they were
+    pub(crate) saved: Option<Table>,
     ghost code_bits: { mag code < 128 },
     ghost count_bits: { count < 65536 },
     ghost size_bits: { size < 65536 },

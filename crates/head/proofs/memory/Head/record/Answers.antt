@@ -8,6 +8,6 @@ use Rattle.head.proofs.memory.Head.record.Needs as need
 
 pub returns-else-number-lt20 : need.returns-else-number-lt20
 returns-else-number-lt20 c =
-    let records = c .args .self .now .inner .records in
-    let past : length records ≤ c .args .number = omega (arith, c .args .self .now .inner .«table_full») in
+    let records = c .args .self .now .inner .table .records in
+    let past : length records ≤ c .args .number = omega (arith, c .args .self .now .inner .table .full) in
     record { value = c .blank .ensures .value ∙ sym (ap (λ r. r .words) (getD-past records (c .args .number) blank past)) }
