@@ -1,2 +1,4 @@
 pub mod Showing
 pub mod Tables
+pub mod Accessing
+pub mod Filling

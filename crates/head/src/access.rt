@@ -1,13 +1,15 @@
 // One access to a head: modes, marks, and the registers.
-ghost use Rattle.camera.specs.State.{CameraState};
-ghost use Rattle.camera.specs.Steps.{after-read, ended, held, marked, mode, next-ack, unless-unacknowledged, word-read};
+ghost use Rattle.camera.specs.Registers.{Exists};
+ghost use Rattle.camera.specs.Steps.{after-read, after-write, ended, held, marked, mode, next-ack, stored, unless-unacknowledged, word-read};
 ghost use Rattle.head.specs.Meaning.{head-state};
 ghost use Rattle.std.specs.declared.result.Result.the-variants.{Ok, Err};
 ghost use mathlib.Core.Path.{_≡_};
 use crate::memory::Head;
+use camera::Bus;
 use camera::Fault;
 use camera::Mode;
 use camera::Register;
+use camera::decode;
 use camera::word_at;
 use words::code_byte;
 
@@ -74,5 +76,48 @@ impl Head {
             (Mode::Idle, _) => self.held(register),
             _ => 0,
         }
+    }
+
+    // What a write to a register of an idle camera does.
+    fn store(&mut self, register: Register, word: u16)
+        requires { ⌜ Exists register ⌝ }
+        ensures after { λ _. ⌜ head-state (now (self .exit)) ≡ stored register word (head-state (now (self .entry))) ⌝ }
+    {
+        match register {
+            Register::Power | Register::Status => {}
+            Register::Command => self.execute(word),
+            Register::Length => self.inner.size = word,
+            Register::Data(place) => self.inner.data[place as usize] = word,
+            Register::Block(place) => self.inner.block[place as usize] = word,
+        }
+    }
+
+    // An acknowledged write.
+    fn write_register(&mut self, register: Register, word: u16)
+        requires { ⌜ Exists register ⌝ }
+        ensures after { λ _. ⌜ head-state (now (self .exit)) ≡ after-write (mode (head-state (now (self .entry)))) register word (head-state (now (self .entry))) ⌝ }
+    {
+        match self.mode() {
+            Mode::Hung => {}
+            Mode::Booting(_) | Mode::Busy(_) => self.inner.hung = true,
+            Mode::Idle => self.store(register, word),
+        }
+    }
+}
+
+pub impl Bus for Head as HeadBus {
+    ghost state = { head-state };
+
+    fn read(&mut self, address: u16) -> Result<u16, Fault> {
+        let register = decode(address)?;
+        self.acknowledge(address)?;
+        Ok(self.read_register(register))
+    }
+
+    fn write(&mut self, address: u16, word: u16) -> Result<(), Fault> {
+        let register = decode(address)?;
+        self.acknowledge(address)?;
+        self.write_register(register, word);
+        Ok(())
     }
 }

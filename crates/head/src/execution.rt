@@ -1,7 +1,9 @@
 // Carrying out commands.
 ghost use Prim.Native.Nat.{_≤_};
 ghost use Rattle.camera.specs.Attributes.{size-of};
-ghost use Rattle.camera.specs.Execution.{lawful, moved, over, standing, taken, verdict};
+ghost use Rattle.camera.specs.Execution.{carried-out, executed, lawful, moved, over, run-done, standing, taken, verdict};
+ghost use Rattle.camera.specs.Commands.{command-of};
+ghost use Rattle.std.specs.declared.option.Option.the-variants.{Some};
 ghost use Rattle.head.specs.Meaning.{head-state, registers-in};
 ghost use Rattle.words.specs.Words.{Words};
 ghost use lib.ListN.{length};
@@ -99,6 +101,52 @@ impl Head {
             (Kind::Run, USER_DEFAULTS, Some(_)) => Some(ALREADY_SAVED),
             (Kind::Run, RESTORE, None) => Some(NOTHING_SAVED),
             _ => None,
+        }
+    }
+
+    // Runs what an attribute stands for.
+    fn run(&mut self, number: u16)
+        ensures after { λ _. ⌜ head-state (now (self .exit)) ≡ run-done number (head-state (now (self .entry))) ⌝ }
+    {
+        match number {
+            USER_DEFAULTS => self.save(),
+            RESTORE => self.restore(),
+            _ => {}
+        }
+    }
+
+    // Carries out a command that is not refused.
+    fn carry_out(&mut self, command: Command)
+        ensures after { λ _. ⌜ head-state (now (self .exit)) ≡ carried-out (command .kind) (command .number) (head-state (now (self .entry))) ⌝ }
+    {
+        match command.kind {
+            Kind::Get => self.get(command.number),
+            Kind::Set => self.set(command.number),
+            Kind::Run => self.run(command.number),
+        }
+    }
+
+    // Judges a command, and carries it out if it is not refused.
+    fn judge(&mut self, command: Command)
+        ensures after { λ _. ⌜ head-state (now (self .exit)) ≡ executed (Some command) (head-state (now (self .entry))) ⌝ }
+    {
+        match self.refusal(command) {
+            Some(code) => self.inner.code = code,
+            None => {
+                self.inner.code = 0;
+                self.carry_out(command);
+            }
+        }
+    }
+
+    // A word in the command register.
+    pub(crate) fn execute(&mut self, word: u16)
+        ensures after { λ _. ⌜ head-state (now (self .exit)) ≡ executed (command-of word) (taken (head-state (now (self .entry)))) ⌝ }
+    {
+        self.take_command();
+        match Command::of(word) {
+            Some(command) => self.judge(command),
+            None => self.inner.code = NO_COMMAND,
         }
     }
 }
