@@ -11,6 +11,7 @@ use mir.Val.{toZ}
 use Rattle.std.specs.declared.option.Option.{Option}
 use Rattle.std.specs.declared.option.Option.the-variants.{Some, None}
 use Rattle.std.specs.shelf.Maps.{nth}
+use Rattle.camera.specs.Registers.{over}
 use Rattle.camera.specs.declared.attribute.Attribute.{Attribute}
 use Rattle.camera.specs.declared.attribute.Kind.{Kind}
 use Rattle.camera.specs.declared.attribute.Kind.the-variants.{Get, Set, Run}
@@ -137,7 +138,7 @@ is-saved number = both (is-settable number) (not (eqb number colour-table))
 
 -- the words of an attribute when the camera is made
 unfoldable pub start-words : ℕ → List ℕ
-start-words number = take (size-of number) (asked (λ a. a .start) [] number ++ replicate 512 0)
+start-words number = take (size-of number) (over (asked (λ a. a .start) [] number) (replicate 512 0))
 
 -- The number in one word, or in two words with the low one first.
 abbrev pub pair-number : List ℕ → ℕ
@@ -160,6 +161,11 @@ colour-fits place word = cond (eqb (place % 2) 0) (leb word 255) true
 unfoldable pub colours-fit : ℕ → List ℕ → Bool
 colours-fit place [] = true
 colours-fit place (word ∷ words) = both (colour-fits place word) (colours-fit (suc place) words)
+
+-- no word is above a greatest one
+unfoldable pub all-at-most : ℕ → List ℕ → Bool
+all-at-most greatest [] = true
+all-at-most greatest (word ∷ words) = both (leb word greatest) (all-at-most greatest words)
 
 -- whether words keep an attribute's limits
 abbrev pub within : Limits → List ℕ → Bool

@@ -1,10 +1,10 @@
 -- What a word in the command register does to an idle camera.
 use Prim.Native.Nat.{ℕ, zero, suc, _+_, _%_}
 use mathlib.Core.Bool.{Bool, true, false, cond, not}
-use mathlib.Core.List.{List, [], _∷_, _++_}
+use mathlib.Core.List.{List, [], _∷_}
 use lib.Dec.{eqb, leb}
 use lib.IntN.{ℤ, pos, negsuc}
-use lib.ListN.{length, take, drop}
+use lib.ListN.{take}
 use Rattle.std.specs.declared.option.Option.{Option}
 use Rattle.std.specs.declared.option.Option.the-variants.{Some, None}
 use Rattle.camera.specs.declared.attribute.Kind.{Kind}
@@ -12,6 +12,7 @@ use Rattle.camera.specs.declared.attribute.Kind.the-variants.{Get, Set, Run}
 use Rattle.camera.specs.declared.attribute.Limits.the-variants.{Fixed}
 use Rattle.camera.specs.declared.command.Command.{Command}
 use Rattle.checks.specs.Tests.{both, first-failing}
+use Rattle.camera.specs.Registers.{over}
 use Rattle.camera.specs.Attributes.{asked, size-of, offers, is-saved, within, user-defaults, restore}
 use Rattle.camera.specs.Commands.{command-of}
 use Rattle.camera.specs.State.{CameraState, Registers, Interpreter, Words, shown, with-registers, with-interpreter, with-busy, with-code, with-words, with-saved}
@@ -51,10 +52,6 @@ with-bank false ws r = record { size = r .size; data-words = r .data-words; bloc
 -- the words of an attribute that stand in the registers
 abbrev pub standing : ℕ → Registers → List ℕ
 standing number r = take (size-of number) (bank (by-data number) r)
-
--- words laid over the front of others
-abbrev pub over : List ℕ → List ℕ → List ℕ
-over ws others = ws ++ drop (length ws) others
 
 -- how many words a command moves
 abbrev pub moved : Kind → ℕ → ℕ

@@ -2,7 +2,9 @@
 use Prim.Native.Nat.{ℕ, _+_, _-_, _*_, _/_, _%_, _≤_, _<_}
 use mathlib.Core.Bool.{Bool, true, false, cond}
 use mathlib.Core.Path.{_≡_}
+use mathlib.Core.List.{List, _++_}
 use lib.Dec.{eqb, leb}
+use lib.ListN.{length, drop}
 use Rattle.std.specs.declared.result.Result.{Result}
 use Rattle.std.specs.declared.result.Result.the-variants.{Ok, Err}
 use Rattle.checks.specs.Tests.{both}
@@ -34,6 +36,10 @@ data-size = 16
 
 abbrev pub block-size : ℕ
 block-size = 512
+
+-- words laid over the front of others
+abbrev pub over : List ℕ → List ℕ → List ℕ
+over ws others = ws ++ drop (length ws) others
 
 -- one of n words that lie two addresses apart, from a base on
 abbrev pub lies-in : ℕ → ℕ → ℕ → Bool

@@ -32,6 +32,7 @@ pub use fault::Fault;
 pub use laws::defaults_come_back;
 pub use laws::gets_change_none;
 pub use laws::sets_change_one;
+pub use limits::all_at_most;
 pub use limits::word_at;
 pub use mode::Mode;
 pub use register::Register;

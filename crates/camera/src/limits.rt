@@ -1,5 +1,5 @@
 // Which words an attribute may be set to.
-ghost use Rattle.camera.specs.Attributes.{colour-fits, colours-fit, pair-number, region-fits, span-fits, within};
+ghost use Rattle.camera.specs.Attributes.{all-at-most, colour-fits, colours-fit, pair-number, region-fits, span-fits, within};
 ghost use lib.ListN.{getD};
 ghost use mathlib.Core.Path.{_≡_};
 use crate::attribute::COLUMNS;
@@ -70,6 +70,18 @@ fn colours_fit(words: &[u16]) -> bool
 {
     for (place, word) in words.iter().enumerate() {
         if !colour_fits(place, *word) {
+            return false;
+        }
+    }
+    true
+}
+
+// Whether no word is above a greatest one.
+pub fn all_at_most(words: &[u16], greatest: u16) -> bool
+    ensures value { λ r. ⌜ r ≡ all-at-most greatest (now (words .entry)) ⌝ }
+{
+    for word in words {
+        if *word > greatest {
             return false;
         }
     }

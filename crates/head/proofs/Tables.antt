@@ -14,7 +14,8 @@ use Rattle.std.proofs.shelf.Lists.{getD-read, getD-set-same, getD-set-other, le
 use Rattle.std.proofs.shelf.Maps.{nth-past}
 use Rattle.std.specs.declared.option.Option.the-variants.{None}
 use Rattle.camera.specs.Attributes.{attribute-at, attributes, is-saved, size-of}
-use Rattle.camera.specs.Execution.{only-saved, over, put-back, with-one}
+use Rattle.camera.specs.Execution.{only-saved, put-back, with-one}
+use Rattle.camera.specs.Registers.{over}
 use Rattle.camera.specs.State.{Words}
 use Rattle.camera.proofs.Changes.{with-one-same, with-one-other}
 use Rattle.head.specs.declared.inner.Record.{Record}

@@ -1,7 +1,8 @@
 // Carrying out commands.
 ghost use Prim.Native.Nat.{_≤_};
 ghost use Rattle.camera.specs.Attributes.{size-of};
-ghost use Rattle.camera.specs.Execution.{carried-out, executed, lawful, moved, over, run-done, standing, taken, verdict};
+ghost use Rattle.camera.specs.Execution.{carried-out, executed, lawful, moved, run-done, standing, taken, verdict};
+ghost use Rattle.camera.specs.Registers.{over};
 ghost use Rattle.camera.specs.Commands.{command-of};
 ghost use Rattle.std.specs.declared.option.Option.the-variants.{Some};
 ghost use Rattle.head.specs.Meaning.{head-state, registers-in};

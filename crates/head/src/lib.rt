@@ -4,6 +4,9 @@ mod execution;
 mod inner;
 mod memory;
 mod queue;
+mod settings;
 mod table;
 
 pub use memory::Head;
+pub use settings::BadSettings;
+pub use settings::HeadSettings;

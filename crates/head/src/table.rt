@@ -1,7 +1,8 @@
 // The head's table of attributes: one record is looked at or changed, all are saved and restored.
 ghost use Prim.Native.Nat.{_≤_};
 ghost use Rattle.camera.specs.Attributes.{size-of};
-ghost use Rattle.camera.specs.Execution.{get-done, only-saved, over, put-back, restore-done, save-done, set-done};
+ghost use Rattle.camera.specs.Execution.{get-done, only-saved, put-back, restore-done, save-done, set-done};
+ghost use Rattle.camera.specs.Registers.{over};
 ghost use Rattle.camera.specs.State.{saved-flag, shown};
 ghost use Rattle.head.specs.Meaning.{blank, head-state, words-in};
 ghost use lib.ListN.{getD, length, take};
