@@ -26,7 +26,7 @@ past : (k : ℕ) → 20 ≤ k → attribute-at k ≡ None
 unfolding attribute-at
 past k h = nth-past attributes k h
 
-size-past : (k : ℕ) → 20 ≤ k → size-of k ≡ 0
+pub size-past : (k : ℕ) → 20 ≤ k → size-of k ≡ 0
 unfolding attribute-at
 size-past k h = rw (past k h, size-of)
 

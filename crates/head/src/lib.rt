@@ -2,6 +2,7 @@
 mod access;
 mod execution;
 mod inner;
+mod making;
 mod memory;
 mod queue;
 mod settings;
