@@ -1,3 +1,4 @@
 pub mod Queues
 pub mod Meaning
 pub mod Making
+pub mod Questions

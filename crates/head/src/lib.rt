@@ -4,10 +4,13 @@ mod execution;
 mod inner;
 mod making;
 mod memory;
+mod questions;
 mod queue;
 mod settings;
 mod table;
 
+pub use access::HeadBus;
 pub use memory::Head;
+pub use questions::HeadReport;
 pub use settings::BadSettings;
 pub use settings::HeadSettings;

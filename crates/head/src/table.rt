@@ -38,7 +38,7 @@ impl Record {
 
 impl Head {
     // The record of an attribute, or zeros where there is none.
-    fn record(&self, number: u16) -> Record
+    pub(crate) fn record(&self, number: u16) -> Record
         ensures value { λ r. ⌜ r .words ≡ getD (now (self .entry) .inner .table .records) number blank .words ⌝ }
     {
         if number < 20 { self.inner.table.records[number as usize] } else { Record::blank() }
@@ -55,7 +55,7 @@ impl Head {
     }
 
     // What an attribute shows, in front of a record.
-    fn shown(&self, number: u16) -> Record
+    pub(crate) fn shown(&self, number: u16) -> Record
         ensures value { λ r. ⌜ take (size-of number) (r .words) ≡ shown (head-state (now (self .entry)) .interpreter) number ⌝ }
     {
         if number == STATUS {
