@@ -7,6 +7,7 @@ use crate::hex::HexBytes;
 use crate::hex::HexBytesDisplay;
 use crate::hex::HexWords;
 use crate::hex::HexWordsDisplay;
+use crate::station::Station;
 use crate::value::Value;
 use crate::value::ValueDisplay;
 use crc::checksum;
@@ -23,7 +24,11 @@ use words::WrongSize;
 // The largest packet.
 const LARGEST_PACKET: usize = 14;
 
-pub(crate) fn carry_out(rt: &LibcRuntime, directive: Directive) -> Result<(), ScriptError> {
+pub(crate) fn carry_out(
+    rt: &LibcRuntime,
+    station: &mut Station,
+    directive: Directive,
+) -> Result<(), ScriptError> {
     match directive {
         Directive::Crc(bytes) => {
             let crc = checksum(bytes.as_slice());
@@ -49,6 +54,7 @@ pub(crate) fn carry_out(rt: &LibcRuntime, directive: Directive) -> Result<(), Sc
             let shown = HexWords(words.as_slice());
             println!(rt, "put :{shown}")?;
         }
+        Directive::Head(directive) => station.carry_out(rt, directive)?,
         Directive::Take(kind, words) => print_taken(rt, kind.take(words.as_slice()))?,
     }
     Ok(())

@@ -5,6 +5,8 @@ use crate::fields::bytes;
 use crate::fields::size;
 use crate::fields::word;
 use crate::fields::words;
+use crate::head_directive::HeadDirective;
+use crate::head_directive::parse_head;
 use crate::value::Value;
 use crate::value::ValueKind;
 use packet::Access;
@@ -29,6 +31,8 @@ pub(crate) enum Directive {
     Put(Value),
     // the value of words
     Take(ValueKind, Vec<u16>),
+    // something of the camera head
+    Head(HeadDirective),
 }
 
 // The directive of a line, or none if the line is blank or a comment.
@@ -65,7 +69,10 @@ fn parse(heap: Global, name: &str, fields: &[&str]) -> Result<Directive, ScriptE
             ValueKind::parse(kind)?,
             words(heap, rest)?,
         )),
-        _ => Err(ScriptError::Directive),
+        _ => match parse_head(heap, name, fields)? {
+            Some(directive) => Ok(Directive::Head(directive)),
+            None => Err(ScriptError::Directive),
+        },
     }
 }
 

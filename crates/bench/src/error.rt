@@ -12,6 +12,10 @@ pub(crate) enum ScriptError {
     Number,
     // a byte that is not two hexadecimal digits
     Byte,
+    // more busy numbers, marks or pixels than a line may have
+    TooMany,
+    // a directive that needs a head before there is one
+    NoHead,
     // a line that cannot be read as text, or an answer that cannot be printed
     Stream,
     // no memory for the line
@@ -25,6 +29,8 @@ pub(crate) impl fmt::Display for ScriptError as ScriptErrorDisplay {
                 ScriptError::Directive => "no directive has this form",
                 ScriptError::Number => "a field is not a number that fits",
                 ScriptError::Byte => "a byte is not two hexadecimal digits",
+                ScriptError::TooMany => "more numbers, marks or pixels than a line may have",
+                ScriptError::NoHead => "no head has been made yet",
                 ScriptError::Stream => "the line is not text, or the answer cannot be printed",
                 ScriptError::Memory => "out of memory",
             },

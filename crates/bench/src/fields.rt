@@ -9,6 +9,15 @@ use std::alloc::Global;
 // The largest buffer that a script may ask for.
 const LARGEST_BUFFER: u64 = 1024;
 
+// A number of sixteen bits in decimal digits.
+pub(crate) fn decimal_word(text: &str) -> Result<u16, ScriptError> {
+    match u16::from_str_radix(text, 10) {
+        // a sign is no digit here
+        Ok(n) if !text.contains('+') => Ok(n),
+        _ => Err(ScriptError::Number),
+    }
+}
+
 // A number: decimal digits, or hexadecimal ones after 0x.
 fn number(text: &str) -> Result<u64, ScriptError> {
     let parsed = match text.strip_prefix("0x") {

@@ -312,8 +312,7 @@ impl Attribute {
 // A law, with nothing to run: no attribute has more words than the block buffer.
 fn size_law(number: u16)
     ensures bound { λ _. ⌜ size-of number ≤ 512 ⌝ }
-{
-}
+{}
 
 // How many words the attribute of a number has: 512 at most, and none where there is no attribute.
 pub fn size_of(number: u16) -> usize

@@ -21,4 +21,4 @@ unfolding shown
 other-shown i n a b =
     sym
     (ap (λ t. cond t (0 ∷ 0 ∷ i .count ∷ 0 ∷ []) (cond (eqb n 18) (saved-flag (i .saved) ∷ 0 ∷ []) (i .words n))) a
-      ∙ ap (λ t. cond t (saved-flag (i .saved) ∷ 0 ∷ []) (i .words n)) b)
+    ∙ ap (λ t. cond t (saved-flag (i .saved) ∷ 0 ∷ []) (i .words n)) b)

@@ -47,8 +47,8 @@ begun-more records n r b short is =
     record {
       size = length-set records n r ∙ b .size;
       below = below-more (Started (set records n r)) n
-        (λ k h. let other : k ≢ n = omega arith in ap (λ x. take (size-of k) (x .words)) (getD-set-other records n k r blank other) ∙ b .below k h)
-        (ap (λ x. take (size-of n) (x .words)) (getD-set-same records n r blank here) ∙ is)
+          (λ k h. let other : k ≢ n = omega arith in ap (λ x. take (size-of k) (x .words)) (getD-set-other records n k r blank other) ∙ b .below k h)
+          (ap (λ x. take (size-of n) (x .words)) (getD-set-same records n r blank here) ∙ is);
     }
 
 -- All attributes of a table that is begun have their start words, and past it there are none.

@@ -58,6 +58,7 @@ no-record records n bank h = fun-ext (λ k. go k (eqb k n) refl)
   where
     none : (ws : List ℕ) → take (size-of n) ws ≡ []
     none ws = ap (λ m. take m ws) (size-past n h)
+
     go : (k : ℕ) (b : Bool) → eqb k n ≡ b → words-in records k ≡ with-one n (take (size-of n) bank) (words-in records) k
     go k true e =
         let same : k ≡ n = grind (arith, e) in
@@ -101,10 +102,10 @@ turn-saved records saved old n x t short full is read =
     record {
       size = length-set records n x ∙ t .size;
       below = below-more (Merged (set records n x) saved old) n
-        (λ k h. let other : k ≢ n = omega arith in ap (λ r. r .words) (getD-set-other records n k x blank other) ∙ t .below k h)
-        (ap (λ r. r .words) (getD-set-same records n x blank here ∙ getD-read saved n x there read blank)
+          (λ k h. let other : k ≢ n = omega arith in ap (λ r. r .words) (getD-set-other records n k x blank other) ∙ t .below k h)
+          (ap (λ r. r .words) (getD-set-same records n x blank here ∙ getD-read saved n x there read blank)
           ∙ sym (ap (λ b. cond b (getD saved n blank .words) (getD old n blank .words)) is));
-      above = λ k h. let other : k ≢ n = omega arith in ap (λ r. r .words) (getD-set-other records n k x blank other) ∙ t .above k (omega arith)
+      above = λ k h. let other : k ≢ n = omega arith in ap (λ r. r .words) (getD-set-other records n k x blank other) ∙ t .above k (omega arith);
     }
 
 pub turn-other : (records saved old : List Record) (n : ℕ) → Turn records saved old n → is-saved n ≡ false → Turn records saved old (n + 1)
@@ -112,6 +113,6 @@ turn-other records saved old n t is =
     record {
       size = t .size;
       below = below-more (Merged records saved old) n (t .below)
-        (t .above n (omega arith) ∙ sym (ap (λ b. cond b (getD saved n blank .words) (getD old n blank .words)) is));
-      above = λ k h. t .above k (omega arith)
+          (t .above n (omega arith) ∙ sym (ap (λ b. cond b (getD saved n blank .words) (getD old n blank .words)) is));
+      above = λ k h. t .above k (omega arith);
     }

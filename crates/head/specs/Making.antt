@@ -48,6 +48,6 @@ made-state s =
         count = 0;
         words = made-words (s .serial) (s .fpa);
         saved = None;
-        coming = vec-items (s .busy)
-      }
+        coming = vec-items (s .busy);
+      };
     }

@@ -50,6 +50,6 @@ head-state head =
         count = head .inner .count;
         words = words-in (head .inner .table .records);
         saved = saved-in (head .inner .saved);
-        coming = left (head .coming)
-      }
+        coming = left (head .coming);
+      };
     }

@@ -13,5 +13,5 @@ report-of s =
       code = s .interpreter .code;
       count = s .interpreter .count;
       size = s .registers .size;
-      saved = is-some (s .interpreter .saved)
+      saved = is-some (s .interpreter .saved);
     }

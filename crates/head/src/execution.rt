@@ -19,10 +19,15 @@ use camera::size_of;
 
 // The response codes of commands that are not carried out.
 const WRONG_SIZE: i8 = -6;
+
 const NO_COMMAND: i8 = -7;
+
 const NOT_OFFERED: i8 = -8;
+
 const OUT_OF_LIMITS: i8 = -9;
+
 const ALREADY_SAVED: i8 = -15;
+
 const NOTHING_SAVED: i8 = -18;
 
 // How many attributes pass through the data registers: those of up to so many words.

@@ -4,6 +4,7 @@ mod execution;
 mod inner;
 mod making;
 mod memory;
+mod picture;
 mod questions;
 mod queue;
 mod settings;

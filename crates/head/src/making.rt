@@ -63,7 +63,13 @@ impl Head {
         if !settings.are_lawful() {
             return Err(BadSettings { settings });
         }
-        let HeadSettings { boot, serial, fpa, busy, acks } = settings;
+        let HeadSettings {
+            boot,
+            serial,
+            fpa,
+            busy,
+            acks,
+        } = settings;
         let inner = Inner {
             hung: false,
             boot,
@@ -76,6 +82,10 @@ impl Head {
             table: Table::start(serial, fpa),
             saved: None,
         };
-        Ok(Head { inner, coming: Queue::new(busy), acks: Queue::new(acks) })
+        Ok(Head {
+            inner,
+            coming: Queue::new(busy),
+            acks: Queue::new(acks),
+        })
     }
 }

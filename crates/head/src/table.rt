@@ -41,7 +41,11 @@ impl Head {
     pub(crate) fn record(&self, number: u16) -> Record
         ensures value { λ r. ⌜ r .words ≡ getD (now (self .entry) .inner .table .records) number blank .words ⌝ }
     {
-        if number < 20 { self.inner.table.records[number as usize] } else { Record::blank() }
+        if number < 20 {
+            self.inner.table.records[number as usize]
+        } else {
+            Record::blank()
+        }
     }
 
     // Whether something is saved, as a number.

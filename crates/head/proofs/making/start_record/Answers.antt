@@ -7,7 +7,7 @@ pub returns-in-Some : need.returns-in-Some
 returns-in-Some c =
     record {
       value = start-some (c .args .number) (c .in-Some .found) (c .with .result .words) (c .in-Some .ensures tt .value)
-        (c .with .ensures .value ∙ ap (over (c .in-Some .found .start)) (c .blank .ensures .value))
+          (c .with .ensures .value ∙ ap (over (c .in-Some .found .start)) (c .blank .ensures .value));
     }
 
 pub returns-in-None : need.returns-in-None

@@ -14,9 +14,9 @@ loop-number-again c =
     let old = c .args .records .now in
     let n = c .loop-number .number in
     elim (c .if-is-saved .came) [
-      then-is-saved w ↦
-        simp (w .records-is)
-        (turn-saved (c .loop-number .records) saved old n (w .index-saved-number .result) (c .loop-number .inv) (omega arith) (c .pre .defaults)
+      | then-is-saved w ↦
+          simp (w .records-is)
+          (turn-saved (c .loop-number .records) saved old n (w .index-saved-number .result) (c .loop-number .inv) (omega arith) (c .pre .defaults)
           (sym (w .if-is-saved .ensures tt .value)) (w .index-saved-number .is))
       | else-is-saved w ↦ simp (w .records-is) (turn-other (c .loop-number .records) saved old n (c .loop-number .inv) (sym (w .if-is-saved .ensures tt .value)))
     ]

@@ -10,5 +10,5 @@ possible-law bus =
       code-bits = record { sfits = bus .inner .«code_bits» };
       count-bits = bus .inner .«count_bits»;
       words-full = λ k h. words-filled (bus .inner .table .records) k;
-      saved-full = saved-filled (bus .inner .saved)
+      saved-full = saved-filled (bus .inner .saved);
     }

@@ -16,7 +16,7 @@ returns-in-Break-register c =
     let back = err-from-errBy (c .from-residual .result) (c .from-residual .ensures .1) in
     record {
       outcome = no-register (head-state (c .args .self .now)) (c .args .address) (write-effect (c .args .word)) (c .from-residual .result) (c .in-Break-register .field-0 .0)
-        (back .1 ∙ ap Err (back .2)) (c .in-Break-register .ensures tt .value)
+          (back .1 ∙ ap Err (back .2)) (c .in-Break-register .ensures tt .value);
     }
 
 pub returns-in-Break-acknowledge : need.returns-in-Break-acknowledge
@@ -26,8 +26,8 @@ returns-in-Break-acknowledge c =
     let back = err-from-errBy r (c .from-residual-in-Break-acknowledge .ensures .1) in
     record {
       outcome = unacknowledged (head-state (c .args .self .now)) (c .args .address) (write-effect (c .args .word)) r (head-state (c .acknowledge .last .self))
-        (c .in-Continue-register .register) (c .in-Break-acknowledge .field-0 .0) (back .1 ∙ ap Err (back .2)) (c .in-Continue-register .ensures tt .value)
-        (c .in-Break-acknowledge .ensures tt .outcome)
+          (c .in-Continue-register .register) (c .in-Break-acknowledge .field-0 .0) (back .1 ∙ ap Err (back .2)) (c .in-Continue-register .ensures tt .value)
+          (c .in-Break-acknowledge .ensures tt .outcome);
     }
 
 pub returns : need.returns
@@ -36,6 +36,6 @@ returns c =
     let t = head-state (c .acknowledge .last .self) in
     record {
       outcome = acknowledged (head-state (c .args .self .now)) (c .args .address) (write-effect (c .args .word)) _ t (c .in-Continue-register .register)
-        (c .in-Continue-register .ensures tt .value) (c .in-Continue-acknowledge .ensures tt .outcome)
-        (ap (λ t. ended (Ok tt) t) (c .write-register .ensures .after))
+          (c .in-Continue-register .ensures tt .value) (c .in-Continue-acknowledge .ensures tt .outcome)
+          (ap (λ t. ended (Ok tt) t) (c .write-register .ensures .after));
     }

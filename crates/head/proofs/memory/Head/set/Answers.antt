@@ -19,11 +19,11 @@ returns-then-number-lt20 c =
     let n = c .args .number in
     let short : n < length (h .inner .table .records) = omega (arith, h .inner .table .full) in
     let words : words-in _ ≡ with-one n (c .standing .result .now) (words-in (h .inner .table .records)) =
-      one-record (h .inner .table .records) n (c .with-record .result) (c .standing .result .now) (c .record .result .words) short
-      (c .with-record .ensures .value) (c .standing .ensures .size) in
+    one-record (h .inner .table .records) n (c .with-record .result) (c .standing .result .now) (c .record .result .words) short
+    (c .with-record .ensures .value) (c .standing .ensures .size) in
     record {
       after = ap (with (head-state h)) words
-        ∙ ap (λ ws. with (head-state h) (with-one n ws (words-in (h .inner .table .records)))) (c .standing .ensures .value)
+          ∙ ap (λ ws. with (head-state h) (with-one n ws (words-in (h .inner .table .records)))) (c .standing .ensures .value);
     }
 
 pub returns-else-number-lt20 : need.returns-else-number-lt20

@@ -14,7 +14,7 @@ returns-then-number-eq-STATUS c =
     let n = c .args .number in
     record {
       value = ap (take (size-of n)) (c .with .ensures .value)
-        ∙ status-shown (head-state (c .args .self .now) .interpreter) n _ (c .if-number-eq-STATUS .taken)
+          ∙ status-shown (head-state (c .args .self .now) .interpreter) n _ (c .if-number-eq-STATUS .taken);
     }
 
 pub returns-then-number-eq-USER-DEFAULTS : need.returns-then-number-eq-USER-DEFAULTS
@@ -22,8 +22,8 @@ returns-then-number-eq-USER-DEFAULTS c =
     let n = c .args .number in
     record {
       value = ap (take (size-of n)) (c .with-then-number-eq-USER-DEFAULTS .ensures .value)
-        ∙ defaults-shown (head-state (c .args .self .now) .interpreter) n (c .saved-flag .result) _ (c .if-number-eq-USER-DEFAULTS .taken)
-          (c .saved-flag .ensures .value)
+          ∙ defaults-shown (head-state (c .args .self .now) .interpreter) n (c .saved-flag .result) _ (c .if-number-eq-USER-DEFAULTS .taken)
+          (c .saved-flag .ensures .value);
     }
 
 pub returns : need.returns

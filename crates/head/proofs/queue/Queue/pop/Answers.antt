@@ -21,6 +21,6 @@ returns g c =
     let x = c .index-item .result .now in
     let short : q .next < length (vec-items (q .items)) = omega (arith, c .len .ensures, q .items .ok .0) in
     let step : drop (q .next) (vec-items (q .items)) ≡ x ∷ drop (q .next + 1) (vec-items (q .items)) =
-      drop-more (vec-items (q .items)) (q .next) x short
-      ∙ ap (λ y. y ∷ drop (q .next + 1) (vec-items (q .items))) (sym (c .index-item .ensures)) in
+    drop-more (vec-items (q .items)) (q .next) x short
+    ∙ ap (λ y. y ∷ drop (q .next + 1) (vec-items (q .items))) (sym (c .index-item .ensures)) in
     record { value = sym (ap first-of step); after = sym (ap rest-of step) }
