@@ -1,1 +1,1 @@
-pub mod Means
+pub mod Sums

@@ -1,9 +1,10 @@
 // Frames: what a thermal sensor sees, a number for each of its pixels, and their mean.
-ghost use Prim.Native.Nat.{_≤_};
-ghost use Rattle.frame.specs.Frames.{greatest-pixel, mean-of, pixel-count, refusal-number};
+ghost use Prim.Native.Nat.{_*_, _≤_};
+ghost use Rattle.frame.specs.Frames.{all-dim, greatest-pixel, mean-of, pixel-count, refusal-number};
 ghost use Rattle.std.specs.Vec.{made};
 ghost use Rattle.std.specs.shelf.Lists.{sum};
 ghost use lib.ListN.{length};
+ghost use mathlib.Core.Bool.{true};
 ghost use mathlib.Core.Path.{_≡_};
 use camera::COLUMNS;
 use camera::ROWS;
@@ -36,10 +37,11 @@ impl FrameRefusal {
     }
 }
 
-// The sum of the pixels of at most one frame.
+// The sum of the pixels of a frame.
 fn total(pixels: &[u16]) -> u32
-    requires { ⌜ length (now pixels) ≤ pixel-count ⌝ }
+    requires { ⌜ length (now pixels) ≡ pixel-count ⌝ ∗ ⌜ all-dim (now pixels) ≡ true ⌝ }
     ensures value { λ r. ⌜ r ≡ sum (now (pixels .entry)) ⌝ }
+    ensures bound { λ r. ⌜ r ≤ pixel-count * greatest-pixel ⌝ }
 {
     let mut so_far: u32 = 0;
     for pixel in pixels {

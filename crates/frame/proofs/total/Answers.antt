@@ -1,10 +1,11 @@
 use Prim.Native.Nat.{_+_, _≤_}
-use mathlib.Core.Path.{_≡_, sym, _∙_, ap}
+use mathlib.Core.Path.{_≡_, _∙_, ap}
 use native.Mathlib.Omega.{arith}
 use lib.ListN.{getD, take}
 use Rattle.std.proofs.shelf.Lists.{take-all}
 use Rattle.std.proofs.shelf.Sums.{sumBy-more}
 use Rattle.std.specs.shelf.Lists.{sum}
+use Rattle.frame.proofs.Sums.{dim-sum}
 use Rattle.frame.proofs.total.Needs as need
 
 pub loop-pixel-again : need.loop-pixel-again
@@ -19,4 +20,6 @@ loop-pixel-again c =
 
 pub returns : need.returns
 returns c =
-    record { value = c .loop-pixel .inv .0 ∙ ap sum (take-all (c .loop-pixel .pixel-index) (c .args .pixels .now) (c .loop-pixel-test .left)) }
+    let ps = c .args .pixels .now in
+    let all : c .loop-pixel .so-far ≡ sum ps = c .loop-pixel .inv .0 ∙ ap sum (take-all (c .loop-pixel .pixel-index) ps (c .loop-pixel-test .left)) in
+    record { value = all; bound = omega (arith, all, dim-sum ps (c .pre .1), c .pre .0) }
