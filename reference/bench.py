@@ -8,16 +8,36 @@ bench of the proved crates with.
 from __future__ import annotations
 
 import sys
-from typing import Callable, Iterable, Iterator, NamedTuple, Optional
+from dataclasses import replace
+from typing import Callable, Iterable, Iterator, NamedTuple, Optional, Sequence, Union
 
+import camera
 import packets
+import values
+from bus import Fault
+from camera import Head, HeadRefused
 from crc import checksum
 from packets import Function, Refused, Reply, Request, Status
-from script import FieldError, Fields, ScriptError, split_fields, without_ending
+from script import (
+    FieldError, Fields, ScriptError, parse_numbers, require_few, split_fields, without_ending,
+)
 
 LARGEST_WORD = 0xFFFF
 LARGEST_SIZE = 1024
+LARGEST_SERIAL = (1 << 64) - 1
+MOST_BUSY_NUMBERS = 100
+MOST_MARKS = 5000
+MOST_PIXELS = 65535
 FILLER = 0xEE
+
+KINDS: dict[str, Union[values.NumberKind, values.RegionKind]] = {
+    "single": values.SINGLE,
+    "pair": values.PAIR,
+    "signed": values.SIGNED,
+    "quad": values.QUAD,
+    "region": values.REGION,
+}
+"""The words for kinds of values."""
 
 FUNCTIONS = {"read": Function.READ, "write": Function.WRITE}
 """The words for functions."""
@@ -46,6 +66,32 @@ def listed(data: bytes) -> str:
     return " :" + "".join(f" {byte:02X}" for byte in data)
 
 
+def listed_words(words: Sequence[int]) -> str:
+    """A list of words as it is printed behind an answer."""
+    return " :" + "".join(f" {word:04X}" for word in words)
+
+
+def yes_or_no(holds: bool) -> str:
+    """The word for whether something holds."""
+    return "yes" if holds else "no"
+
+
+def put_words(fields: Fields) -> list[int]:
+    """The words of the value in the next two fields, the kind and the value."""
+    kind = fields.choice(KINDS, "kind")
+    if isinstance(kind, values.RegionKind):
+        numbers = parse_numbers(fields.take("region"), kind.word_count, LARGEST_WORD, "region")
+        return kind.put(values.Region(*numbers))
+    if kind.signed:
+        return kind.put(fields.signed(kind.least, kind.greatest, "value"))
+    return kind.put(fields.number(kind.greatest, "value"))
+
+
+def printed(value: Union[int, values.Region]) -> str:
+    """A value as it is printed."""
+    return ",".join(map(str, value)) if isinstance(value, values.Region) else str(value)
+
+
 def written(name: str, packet: bytes, size: Optional[int]) -> str:
     """The answer of a directive that writes a packet: the packet, or the whole buffer if its size is given."""
     buffer = bytearray([FILLER] * (packets.LARGEST if size is None else size))
@@ -69,7 +115,22 @@ class Bench:
             "reply": self.reply,
             "unpack-request": self.unpack_request,
             "unpack-reply": self.unpack_reply,
+            "put": self.put,
+            "take": self.take,
+            "boot": self.boot,
+            "serial": self.serial,
+            "fpa": self.fpa,
+            "busy": self.busy,
+            "acks": self.acks,
+            "make": self.make,
+            "read": self.read,
+            "write": self.write,
+            "frame": self.frame,
+            "state": self.state,
+            "attribute": self.attribute,
         }
+        self.settings = camera.Settings()
+        self.made: Optional[Head] = None
 
     def carry_out(self, fields: Fields) -> Optional[str]:
         """Carries out the directive of one line. A field that is left over is an error."""
@@ -118,6 +179,103 @@ class Bench:
             return f"unpack-reply {refused}"
         answer = f"unpack-reply {word_for(REPLIES[function], reply.status)}"
         return answer if reply.word is None else f"{answer} {reply.word:04X}"
+
+    # Values
+
+    def put(self, fields: Fields) -> str:
+        """`put KIND VALUE`"""
+        return "put" + listed_words(put_words(fields))
+
+    def take(self, fields: Fields) -> str:
+        """`take KIND WORDS..`"""
+        kind = fields.choice(KINDS, "kind")
+        words = fields.rest_as_numbers(LARGEST_WORD, "word")
+        try:
+            return f"take {printed(kind.take(words))}"
+        except values.WrongSize as refused:
+            return f"take {refused}"
+
+    # Settings of the next head
+
+    def boot(self, fields: Fields) -> None:
+        """`boot N`"""
+        self.settings = replace(self.settings, boot_polls=fields.number(LARGEST_WORD, "boot polls"))
+
+    def serial(self, fields: Fields) -> None:
+        """`serial N`"""
+        self.settings = replace(self.settings, serial=fields.number(LARGEST_SERIAL, "serial number"))
+
+    def fpa(self, fields: Fields) -> None:
+        """`fpa N`"""
+        self.settings = replace(self.settings, temperature=fields.number(LARGEST_WORD, "sensor temperature"))
+
+    def busy(self, fields: Fields) -> None:
+        """`busy N..`"""
+        numbers = fields.rest_as_numbers(LARGEST_WORD, "busy polls")
+        require_few(len(numbers), MOST_BUSY_NUMBERS, "busy numbers")
+        self.settings = replace(self.settings, busy_numbers=numbers)
+
+    def acks(self, fields: Fields) -> None:
+        """`acks MARKS..`"""
+        marks = fields.rest_as_marks()
+        require_few(len(marks), MOST_MARKS, "marks")
+        self.settings = replace(self.settings, marks=marks)
+
+    # The head
+
+    def make(self, fields: Fields) -> str:
+        """`make`"""
+        try:
+            self.made = Head(self.settings)
+        except HeadRefused as refused:
+            return f"make {refused}"
+        return "make ok"
+
+    def head(self) -> Head:
+        """The head, which has to be there."""
+        if self.made is None:
+            raise FieldError("there is no head yet")
+        return self.made
+
+    def read(self, fields: Fields) -> str:
+        """`read ADDRESS`"""
+        address = fields.number(LARGEST_WORD, "address")
+        try:
+            return f"read ok {self.head().read(address):04X}"
+        except Fault as fault:
+            return f"read {fault}"
+
+    def write(self, fields: Fields) -> str:
+        """`write ADDRESS WORD`"""
+        address = fields.number(LARGEST_WORD, "address")
+        word = fields.number(LARGEST_WORD, "word")
+        try:
+            self.head().write(address, word)
+        except Fault as fault:
+            return f"write {fault}"
+        return "write ok"
+
+    def frame(self, fields: Fields) -> str:
+        """`frame RUNS..`"""
+        pixels = fields.rest_as_pixels(LARGEST_WORD, MOST_PIXELS)
+        try:
+            self.head().load_frame(pixels)
+        except HeadRefused as refused:
+            return f"frame {refused}"
+        return "frame ok"
+
+    def state(self, fields: Fields) -> str:
+        """`state`"""
+        head = self.head()
+        polls = f"boot {head.boot_polls} busy {head.busy_polls}"
+        numbers = f"code {head.code} count {head.count} length {head.length}"
+        saved = yes_or_no(head.saved is not None)
+        return f"state session asleep hung {yes_or_no(head.hung)} {polls} {numbers} saved {saved}"
+
+    def attribute(self, fields: Fields) -> str:
+        """`attribute NUMBER`"""
+        number = fields.number(len(camera.ATTRIBUTES) - 1, "attribute")
+        return f"attribute {number}{listed_words(self.head().shown(number))}"
 
 
 def run(lines: Iterable[bytes]) -> Iterator[Answer]:

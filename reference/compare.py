@@ -22,8 +22,8 @@ import bench
 from generate import generate
 from script import ScriptError
 
-DEFAULT_SEEDS = 300
-FEWEST_LINES = 1000
+DEFAULT_SEEDS = 1600
+FEWEST_LINES = 100_000
 """How many lines have to be compared, at least, with the default seeds or more."""
 LONGEST_RUN = 20
 """How many seconds the program may take for a script."""

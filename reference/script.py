@@ -1,4 +1,4 @@
-"""Bench scripts: lines, fields, numbers, bytes, and what is wrong with them.
+"""Bench scripts: lines, fields, numbers, bytes, marks and runs of pixels, and what is wrong with them.
 
 Nothing here leans on what Python takes for a blank, a digit or the end of a line, which is more than a script may have.
 """
@@ -71,11 +71,43 @@ def parse_number(text: str, largest: int, what: str) -> int:
     return value
 
 
+def parse_signed(text: str, least: int, greatest: int, what: str) -> int:
+    """The number that a field is, from the least to the greatest. Only a negative one has a minus sign."""
+    if not text.startswith("-"):
+        return parse_number(text, greatest, what)
+    number = -parse_number(text[1:], -least, what)
+    if number == 0:
+        raise FieldError(f"{what}: {text!a} has a minus sign and is not negative")
+    return number
+
+
+def parse_numbers(text: str, count: int, largest: int, what: str) -> list[int]:
+    """The numbers that a field has, so many of them, with commas between them."""
+    parts = text.split(",")
+    if len(parts) != count:
+        raise FieldError(f"{what}: {text!a} is not {count} numbers with commas between them")
+    return [parse_number(part, largest, what) for part in parts]
+
+
+def parse_run(text: str, largest: int) -> tuple[int, int]:
+    """The count and the value of a run of equal pixels, `COUNTxVALUE`, both in decimal digits."""
+    parts = text.split("x", 1)
+    if len(parts) != 2 or not all(only(part, DECIMAL_DIGITS) for part in parts):
+        raise FieldError(f"{text!a} is not a run COUNTxVALUE")
+    return parse_number(parts[0], largest, "count"), parse_number(parts[1], largest, "pixel")
+
+
 def parse_byte(text: str) -> int:
     """The byte that a field is: exactly two hexadecimal digits."""
     if len(text) != 2 or not only(text, HEXADECIMAL_DIGITS):
         raise FieldError(f"{text!a} is not a byte of two hexadecimal digits")
     return int(text, 16)
+
+
+def require_few(count: int, most: int, what: str) -> None:
+    """Makes sure that there are no more of something than a line may have."""
+    if count > most:
+        raise FieldError(f"there are more than {most} {what}")
 
 
 class Fields:
@@ -110,6 +142,36 @@ class Fields:
     def number_if_any(self, largest: int, what: str) -> Optional[int]:
         """The next field as a number, or nothing if no field is left."""
         return self.number(largest, what) if self.more() else None
+
+    def signed(self, least: int, greatest: int, what: str) -> int:
+        """The next field as a number from the least to the greatest."""
+        return parse_signed(self.take(what), least, greatest, what)
+
+    def rest_as_numbers(self, largest: int, what: str) -> list[int]:
+        """All fields that are left as numbers; there may be none."""
+        numbers = []
+        while self.more():
+            numbers.append(self.number(largest, what))
+        return numbers
+
+    def rest_as_marks(self) -> list[bool]:
+        """All fields that are left as marks, one digit a mark: 1 for true and 0 for false. There may be none."""
+        marks = []
+        while self.more():
+            text = self.take("marks")
+            if not only(text, "01"):
+                raise FieldError(f"{text!a} has other digits than 0 and 1")
+            marks += [digit == "1" for digit in text]
+        return marks
+
+    def rest_as_pixels(self, largest: int, most: int) -> list[int]:
+        """All fields that are left as runs of pixels; there may be none. There are no more pixels than the most."""
+        pixels: list[int] = []
+        while self.more():
+            count, value = parse_run(self.take("run"), largest)
+            require_few(len(pixels) + count, most, "pixels")
+            pixels += [value] * count
+        return pixels
 
     def rest_as_bytes(self) -> bytes:
         """All fields that are left as bytes; there may be none."""
