@@ -72,13 +72,10 @@ def parse_number(text: str, largest: int, what: str) -> int:
 
 
 def parse_signed(text: str, least: int, greatest: int, what: str) -> int:
-    """The number that a field is, from the least to the greatest. Only a negative one has a minus sign."""
+    """The number that a field is, from the least to the greatest: a number, or a minus sign and a number."""
     if not text.startswith("-"):
         return parse_number(text, greatest, what)
-    number = -parse_number(text[1:], -least, what)
-    if number == 0:
-        raise FieldError(f"{what}: {text!a} has a minus sign and is not negative")
-    return number
+    return -parse_number(text[1:], -least, what)
 
 
 def parse_numbers(text: str, count: int, largest: int, what: str) -> list[int]:

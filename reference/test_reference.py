@@ -497,7 +497,7 @@ class ScriptFields(unittest.TestCase):
         cases = {"-3": -3, "-0x3": -3, "3": 3, "0": 0, "-2147483648": -(1 << 31), "0x7FFFFFFF": (1 << 31) - 1}
         for text, value in cases.items():
             self.assertEqual(script.parse_signed(text, -(1 << 31), (1 << 31) - 1, "value"), value)
-        for text in ("-2147483649", "2147483648", "--3", "-", "- 3", "+3", "-+3", "0x-3", "-0", "-0x0", ""):
+        for text in ("-2147483649", "2147483648", "--3", "-", "- 3", "+3", "-+3", "0x-3", ""):
             self.assertRaises(script.FieldError, script.parse_signed, text, -(1 << 31), (1 << 31) - 1, "value")
 
     def test_runs(self) -> None:
