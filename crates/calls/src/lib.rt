@@ -1,6 +1,7 @@
 // What a panel's calls do: the refusals of a call, the outcome of every call in every state of a session, call sequences,
 // and the laws that hold of every one of them. This crate has the definitions and the proofs; the calls themselves are
 // made by the session, against these definitions.
+#![tactic(auto)]
 mod laws;
 mod refusal;
 mod stage;

@@ -1,4 +1,5 @@
 // A packet link: a bus that carries each access as a packet to a bus below it.
+#![tactic(auto)]
 mod answers;
 mod ends;
 mod laws;

@@ -1,4 +1,5 @@
 // A panel's session with a camera, over any bus.
+#![tactic(auto)]
 mod collecting;
 mod commands;
 mod states;
