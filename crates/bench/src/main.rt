@@ -1,5 +1,6 @@
 // The bench: reads a script on standard input and prints what the library answers, a line for each directive.
 #![tactic(auto)]
+
 mod carry;
 mod directive;
 mod error;

@@ -2,6 +2,7 @@
 // and the laws that hold of every one of them. This crate has the definitions and the proofs; the calls themselves are
 // made by the session, against these definitions.
 #![tactic(auto)]
+
 mod laws;
 mod refusal;
 mod stage;

@@ -1,5 +1,6 @@
 // The camera behind a bus: its registers, its attributes and command words, and what an access does to its state.
 #![tactic(auto)]
+
 mod attribute;
 mod bus;
 mod command;

@@ -1,6 +1,7 @@
 // The worked cases, as one statement over the definitions that the contracts of all layers cite; and published vectors,
 // which are run.
 #![tactic(auto)]
+
 ghost use Rattle.cases.specs.Cases.{CasesHold};
 
 // A law, with nothing to run: every worked case comes out as expected.

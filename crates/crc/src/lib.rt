@@ -1,5 +1,6 @@
 // CRC-CCITT-16 (polynomial 0x11021, register started at 0), worked a byte at a time with a table of 256 entries.
 #![tactic(auto)]
+
 ghost use Rattle.crc.specs.Crc.{crc_of, crc_bytes, crc_from, feed, table_entry};
 ghost use Rattle.std.specs.Prelude.{◌≡◌, ◌++◌, length};
 

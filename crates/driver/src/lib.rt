@@ -1,6 +1,7 @@
 // What a session does to a camera, over any bus: sending a command, polling the status register, fetching an attribute's
 // words.
 #![tactic(auto)]
+
 mod access;
 mod polling;
 mod transfer;

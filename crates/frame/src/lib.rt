@@ -1,5 +1,6 @@
 // Frames: what a thermal sensor sees, a number for each of its pixels, and their mean.
 #![tactic(auto)]
+
 ghost use Rattle.std.specs.Prelude.{◌≡◌, ◌*◌, ◌≤◌, true, length, IfOk, sum};
 ghost use Rattle.frame.specs.Frames.{all_dim, greatest_pixel, mean_of, pixel_count, refusal_number};
 

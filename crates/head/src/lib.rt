@@ -1,5 +1,6 @@
 // A simulated camera head: a bus that keeps the camera's state itself.
 #![tactic(auto)]
+
 mod access;
 mod execution;
 mod inner;

@@ -1,5 +1,6 @@
 // A packet link: a bus that carries each access as a packet to a bus below it.
 #![tactic(auto)]
+
 mod answers;
 mod ends;
 mod laws;

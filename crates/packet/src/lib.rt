@@ -1,5 +1,6 @@
 // Packets: a register access, and the reply to it, as bytes on a serial line.
 #![tactic(auto)]
+
 ghost use Rattle.std.specs.Prelude.{◌≡◌, ◌+◌, ◌-◌, ◌≤◌, cond, length, Some, None, Ok, Err};
 ghost use Rattle.checks.specs.Tests.{judged};
 ghost use Rattle.packet.specs.Layout.{be_bytes, be_word, buffer_after, content, denial_status, front_bytes, function_code, laid, packet, refusal_number, reply_packet, request_packet, with_checksum, written};

@@ -1,5 +1,6 @@
 // A panel's session with a camera, over any bus.
 #![tactic(auto)]
+
 mod collecting;
 mod commands;
 mod states;

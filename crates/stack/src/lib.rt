@@ -1,5 +1,6 @@
 // A bus with none, one or two packet links laid over it: which one is chosen while the program runs.
 #![tactic(auto)]
+
 ghost use Rattle.stack.specs.Stacking.{bottom, links_of, stacked};
 ghost use Rattle.std.specs.Prelude.{◌≡◌};
 ghost use Rattle.std.proofs.Common.{rules};

@@ -1,5 +1,6 @@
 // Values as lists of sixteen-bit words, the order of values, and the response code in a status word.
 #![tactic(auto)]
+
 ghost use Rattle.std.specs.Prelude.{◌≡◌, ℕ, ◌+◌, ◌*◌, ◌/◌, ◌^◌, ◌<◌, Bool, true, ◌⊎◌, List, length, IfOk, FitsSigned, int_le, nat_le};
 ghost use Rattle.words.specs.Code.{byte_of, code_of};
 ghost use Rattle.words.specs.Order.{between};
