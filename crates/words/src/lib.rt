@@ -377,7 +377,7 @@ impl TotalOrder for u64 {
 
 // Whether a value is in a range. Both ends are in it.
 pub fn is_between<T: TotalOrder>(value: &T, least: &T, greatest: &T) -> bool
-    ensures answer { result ≡ between leq least.now value.now greatest.now }
+    ensures answer { result ≡ between T.leq least.now value.now greatest.now }
 {
     least.at_most(value) && value.at_most(greatest)
 }

@@ -7,10 +7,10 @@ use Rattle.crc.proofs.checksum.Goals as goal
 pub loop-byte-preserved : goal.loop-byte-preserved
 unfolding crc_from
 loop-byte-preserved c = (
-  ap (λ x. crc_from x (drop (c.loop-byte.byte-index + 1) c.args.bytes.now)) c.add-byte-register.ensures.value
+  ap (λ x. crc_from x (drop (c.loop-byte.byte-index + 1) c.args.bytes.now)) c.add_byte-register.ensures.value
       ∙ sym (at_drop_more (crc_from c.loop-byte.register) c.args.bytes.now c.loop-byte.byte-index 0 (omega arith))
       ∙ c.loop-byte.invariant.0,
-  c.add-byte-register.type-inv,
+  c.add_byte-register.type_inv,
 )
 
 pub returns : goal.returns

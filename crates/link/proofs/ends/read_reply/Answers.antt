@@ -9,5 +9,5 @@ unfolding reply_read
 returns c =
     record {
       value = c.unpack-reply.ensures.answer ∙ ap (λ f. reply_of f c.args.bytes.now) c.function-of.ensures.value;
-      whole = only_replies c.args.access c.args.bytes.now (λ i. omega (arith, c.type-inv.bytes i));
+      whole = only_replies c.args.access c.args.bytes.now (λ i. omega (arith, c.type_inv.bytes i));
     }

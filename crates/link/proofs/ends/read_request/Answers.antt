@@ -6,5 +6,5 @@ pub returns : goal.returns
 returns c =
     record {
       value = c.unpack-request.ensures.answer;
-      whole = only_requests c.args.bytes.now (λ i. omega (arith, c.type-inv.bytes i));
+      whole = only_requests c.args.bytes.now (λ i. omega (arith, c.type_inv.bytes i));
     }
