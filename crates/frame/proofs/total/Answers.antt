@@ -10,8 +10,8 @@ loop-pixel-preserved c =
     let ps = c.args.pixels.now in
     let more : sum (take (i + 1) ps) ≡ sum (take i ps) + get_or ps i 0 = sum_by_more (λ x. x) ps i 0 c.loop-pixel-test.true in
     let small : get_or ps i 0 ≤ 65535 = omega (arith, c.type_inv.pixels i) in (
-      omega (arith, more, c.loop-pixel.invariant.0, c.from-so-far.ensures),
-      omega (arith, small, c.loop-pixel.invariant.1, c.from-so-far.ensures),
+      omega (arith, more, c.loop-pixel.invariant.0, c.from-so_far.ensures),
+      omega (arith, small, c.loop-pixel.invariant.1, c.from-so_far.ensures),
     )
 
 pub returns : goal.returns

@@ -9,6 +9,6 @@ returns c =
     let at = c.args.at in
     let n = length c.args.part.now in
     record {
-      after = ap₂ (λ part k. take at b ++ (part ++ drop k (drop at b))) c.copy-from-slice.ensures.after (add-sub_cancel_left at n)
+      after = ap₂ (λ part k. take at b ++ (part ++ drop k (drop at b))) c.copy_from_slice.ensures.after (add-sub_cancel_left at n)
           ∙ ap (λ rest. take at b ++ (c.args.part.now ++ rest)) (drop-drop n at b);
     }

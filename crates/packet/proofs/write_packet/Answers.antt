@@ -22,7 +22,7 @@ returns c =
     let p : Content = content c.args.status c.args.function c.args.arguments.now in
     let n : ℕ = length c.args.arguments.now in
     let l1 : c.lay.new.buffer ≡ over (with_checksum (front p)) b =
-    c.lay.ensures.after ∙ ap (laid b 0) c.sealed-front.ensures.value ∙ over_more [] (with_checksum (front p)) b 0 refl in
+    c.lay.ensures.after ∙ ap (laid b 0) c.sealed_front.ensures.value ∙ over_more [] (with_checksum (front p)) b 0 refl in
     let l2 : c.lay-2.new.buffer ≡ over (body p) b =
     c.lay-2.ensures.after ∙ ap (λ x. laid x 8 c.args.arguments.now) l1
     ∙ over_more (with_checksum (front p)) c.args.arguments.now b 8 (length_sealed (front p)) in

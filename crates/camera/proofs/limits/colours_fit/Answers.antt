@@ -12,18 +12,18 @@ step i ws h =
     at_drop_more (colours_fit i) ws i 0 h
     ∙ ap (λ k. both (colour_fits i (get_or ws i 0)) (colours_fit k (drop (i + 1) ws))) (sym (add-one i))
 
-pub returns-then-not-colour-fits : goal.returns-then-not-colour-fits
-returns-then-not-colour-fits c =
+pub returns-then-not-colour_fits : goal.returns-then-not-colour_fits
+returns-then-not-colour_fits c =
     let i = c.loop-place.place in
     let ws = c.args.words.now in
-    let off : colour_fits i (get_or ws i 0) ≡ false = sym c.colour_fits.ensures.value ∙ c.if-not-colour-fits.true in
+    let off : colour_fits i (get_or ws i 0) ≡ false = sym c.colour_fits.ensures.value ∙ c.if-not-colour_fits.true in
     record { value = sym (ap (λ b. both b (colours_fit (i + 1) (drop (i + 1) ws))) off) ∙ sym (step i ws (omega arith)) ∙ c.loop-place.invariant }
 
 pub loop-place-preserved : goal.loop-place-preserved
 loop-place-preserved c =
     let i = c.loop-place.place in
     let ws = c.args.words.now in
-    let on : colour_fits i (get_or ws i 0) ≡ true = sym c.colour_fits.ensures.value ∙ c.if-not-colour-fits.false in
+    let on : colour_fits i (get_or ws i 0) ≡ true = sym c.colour_fits.ensures.value ∙ c.if-not-colour_fits.false in
     sym (ap (λ b. both b (colours_fit (i + 1) (drop (i + 1) ws))) on) ∙ sym (step i ws (omega arith)) ∙ c.loop-place.invariant
 
 pub returns : goal.returns

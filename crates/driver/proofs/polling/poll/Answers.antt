@@ -8,13 +8,13 @@ use Rattle.driver.specs.Driving.{passes}
 use Rattle.driver.proofs.StatusReads.{breaks_off, none_left, not_yet, shown_now}
 use Rattle.driver.proofs.polling.poll.Goals as goal
 
-pub returns-in-err-status : goal.returns-in-err-status
-returns-in-err-status g c =
-    let p = err_from_is_err_and c.from-residual.result c.from-residual.ensures.1 in
+pub returns-in_err-status : goal.returns-in_err-status
+returns-in_err-status g c =
+    let p = err_from_is_err_and c.from_residual.result c.from_residual.ensures.1 in
     let left : 0 < c.args.budget - c.loop-polls.-polls = omega arith in
     record {
-      outcome = rw (p.1, p.2) (sym (breaks_off camera (passes c.args.awaited) (c.args.budget - c.loop-polls.-polls) c.in-err-status.field-0.0
-          (g.B.Bus.state c.loop-polls.bus) (g.B.Bus.state c.read-register.new.bus) left c.in-err-status.ensures.outcome)
+      outcome = rw (p.1, p.2) (sym (breaks_off camera (passes c.args.awaited) (c.args.budget - c.loop-polls.-polls) c.in_err-status.field-0.0
+          (g.B.Bus.state c.loop-polls.bus) (g.B.Bus.state c.read_register.new.bus) left c.in_err-status.ensures.outcome)
           ∙ c.loop-polls.invariant);
     }
 
@@ -26,17 +26,17 @@ loop-polls-preserved g c =
     let i = c.loop-polls.-polls in
     let left : 0 < c.args.budget - i = omega arith in
     let less : c.args.budget - (i + 1) ≡ c.args.budget - i - 1 = omega arith in
-    ap (λ n. polled camera (passes c.args.awaited) n (g.B.Bus.state c.read-register.new.bus)) less
-    ∙ sym (not_yet camera (passes c.args.awaited) (c.args.budget - i) c.in-ok-status.status (g.B.Bus.state c.loop-polls.bus)
-    (g.B.Bus.state c.read-register.new.bus) left c.in-ok-status.ensures.outcome (sym c.is-shown.ensures.value ∙ c.if-is-shown.false))
+    ap (λ n. polled camera (passes c.args.awaited) n (g.B.Bus.state c.read_register.new.bus)) less
+    ∙ sym (not_yet camera (passes c.args.awaited) (c.args.budget - i) c.in_ok-status.status (g.B.Bus.state c.loop-polls.bus)
+    (g.B.Bus.state c.read_register.new.bus) left c.in_ok-status.ensures.outcome (sym c.is_shown.ensures.value ∙ c.if-is_shown.false))
     ∙ c.loop-polls.invariant
 
-pub returns-then-is-shown : goal.returns-then-is-shown
-returns-then-is-shown g c =
+pub returns-then-is_shown : goal.returns-then-is_shown
+returns-then-is_shown g c =
     let left : 0 < c.args.budget - c.loop-polls.-polls = omega arith in
     record {
-      outcome = sym (shown_now camera (passes c.args.awaited) (c.args.budget - c.loop-polls.-polls) c.in-ok-status.status (g.B.Bus.state c.loop-polls.bus)
-          (g.B.Bus.state c.read-register.new.bus) left c.in-ok-status.ensures.outcome (sym c.is-shown.ensures.value ∙ c.if-is-shown.true))
+      outcome = sym (shown_now camera (passes c.args.awaited) (c.args.budget - c.loop-polls.-polls) c.in_ok-status.status (g.B.Bus.state c.loop-polls.bus)
+          (g.B.Bus.state c.read_register.new.bus) left c.in_ok-status.ensures.outcome (sym c.is_shown.ensures.value ∙ c.if-is_shown.true))
           ∙ c.loop-polls.invariant;
     }
 

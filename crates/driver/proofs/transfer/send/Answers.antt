@@ -2,6 +2,6 @@ use Rattle.std.proofs.Common.{sym}
 use Rattle.driver.proofs.WordTransfers.{sent_fit}
 use Rattle.driver.proofs.transfer.send.Goals as goal
 
-pub write-words-requires : goal.write-words-requires
-write-words-requires g c =
-    sent_fit c.args.command c.args.words.now c.goes-by-data.result (sym c.in-ok-check.ensures.value) c.goes-by-data.ensures.value
+pub write_words-requires : goal.write_words-requires
+write_words-requires g c =
+    sent_fit c.args.command c.args.words.now c.goes_by_data.result (sym c.in_ok-check.ensures.value) c.goes_by_data.ensures.value

@@ -7,7 +7,7 @@ loop-number-init c = record { size = c.requires; below = λ k h. absurd (omega a
 
 pub loop-number-preserved : goal.loop-number-preserved
 loop-number-preserved c =
-    begun_more c.loop-number.records c.loop-number.number c.start-record.result c.loop-number.invariant (omega arith) c.start-record.ensures.value
+    begun_more c.loop-number.records c.loop-number.number c.start_record.result c.loop-number.invariant (omega arith) c.start_record.ensures.value
 
 pub returns : goal.returns
 returns c = record { after = λ k h. c.loop-number.invariant.below k (omega arith) }

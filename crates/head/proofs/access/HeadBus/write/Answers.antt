@@ -5,28 +5,28 @@ use Rattle.head.specs.Meaning.{head_state}
 use Rattle.head.proofs.Accessing.{acknowledged, no_register, unacknowledged}
 use Rattle.head.proofs.access.HeadBus.write.Goals as goal
 
-pub write-register-requires : goal.write-register-requires
-write-register-requires c =
-    (c.in-ok-register.ensures.stands.register_of_address c.in-ok-register.register (sym c.in-ok-register.ensures.value)).1
+pub write_register-requires : goal.write_register-requires
+write_register-requires c =
+    (c.in_ok-register.ensures.stands.register_of_address c.in_ok-register.register (sym c.in_ok-register.ensures.value)).1
 
-pub returns-in-err-register : goal.returns-in-err-register
+pub returns-in_err-register : goal.returns-in_err-register
 unfolding write_step
-returns-in-err-register c =
-    let back = err_from_is_err_and c.from-residual.result c.from-residual.ensures.1 in
+returns-in_err-register c =
+    let back = err_from_is_err_and c.from_residual.result c.from_residual.ensures.1 in
     record {
-      outcome = no_register (head_state c.args.self.now) c.args.address (write_effect c.args.word) c.from-residual.result c.in-err-register.field-0.0
-          (back.1 ∙ ap Err back.2) c.in-err-register.ensures.value;
+      outcome = no_register (head_state c.args.self.now) c.args.address (write_effect c.args.word) c.from_residual.result c.in_err-register.field-0.0
+          (back.1 ∙ ap Err back.2) c.in_err-register.ensures.value;
     }
 
-pub returns-in-err-acknowledge : goal.returns-in-err-acknowledge
+pub returns-in_err-acknowledge : goal.returns-in_err-acknowledge
 unfolding write_step
-returns-in-err-acknowledge c =
-    let r = c.from-residual-in-err-acknowledge.result in
-    let back = err_from_is_err_and r c.from-residual-in-err-acknowledge.ensures.1 in
+returns-in_err-acknowledge c =
+    let r = c.from_residual-in_err-acknowledge.result in
+    let back = err_from_is_err_and r c.from_residual-in_err-acknowledge.ensures.1 in
     record {
       outcome = unacknowledged (head_state c.args.self.now) c.args.address (write_effect c.args.word) r (head_state c.acknowledge.new.self)
-          c.in-ok-register.register c.in-err-acknowledge.field-0.0 (back.1 ∙ ap Err back.2) c.in-ok-register.ensures.value
-          c.in-err-acknowledge.ensures.outcome;
+          c.in_ok-register.register c.in_err-acknowledge.field-0.0 (back.1 ∙ ap Err back.2) c.in_ok-register.ensures.value
+          c.in_err-acknowledge.ensures.outcome;
     }
 
 pub returns : goal.returns
@@ -34,7 +34,7 @@ unfolding write_step
 returns c =
     let t = head_state c.acknowledge.new.self in
     record {
-      outcome = acknowledged (head_state c.args.self.now) c.args.address (write_effect c.args.word) _ t c.in-ok-register.register
-          c.in-ok-register.ensures.value c.in-ok-acknowledge.ensures.outcome
-          (ap (λ t. ended (Ok tt) t) c.write-register.ensures.after);
+      outcome = acknowledged (head_state c.args.self.now) c.args.address (write_effect c.args.word) _ t c.in_ok-register.register
+          c.in_ok-register.ensures.value c.in_ok-acknowledge.ensures.outcome
+          (ap (λ t. ended (Ok tt) t) c.write_register.ensures.after);
     }

@@ -2,5 +2,5 @@ use Rattle.std.proofs.Common.{refl}
 use Rattle.head.specs.Meaning.{zeros_below}
 use Rattle.head.proofs.inner.Record.blank.Goals as goal
 
-pub invariant-of-result : goal.invariant-of-result
-invariant-of-result c = ((refl, zeros_below 512), tt)
+pub invariant_of-result : goal.invariant_of-result
+invariant_of-result c = ((refl, zeros_below 512), tt)

@@ -12,12 +12,12 @@ returns-then-number-eq-STATUS c =
           ∙ status_shown (head_state c.args.self.now).interpreter n _ c.if-number-eq-STATUS.true;
     }
 
-pub returns-then-number-eq-USER-DEFAULTS : goal.returns-then-number-eq-USER-DEFAULTS
-returns-then-number-eq-USER-DEFAULTS c =
+pub returns-then-number-eq-USER_DEFAULTS : goal.returns-then-number-eq-USER_DEFAULTS
+returns-then-number-eq-USER_DEFAULTS c =
     let n = c.args.number in
     record {
-      value = ap (take (size_of n)) c.with-then-number-eq-USER-DEFAULTS.ensures.value
-          ∙ defaults_shown (head_state c.args.self.now).interpreter n c.saved_flag.result _ c.if-number-eq-USER-DEFAULTS.true
+      value = ap (take (size_of n)) c.with-then-number-eq-USER_DEFAULTS.ensures.value
+          ∙ defaults_shown (head_state c.args.self.now).interpreter n c.saved_flag.result _ c.if-number-eq-USER_DEFAULTS.true
           c.saved_flag.ensures.value;
     }
 
@@ -26,5 +26,5 @@ unfolding words_in
 returns c =
     let n = c.args.number in
     let a : eqb n 1 ≡ false = grind (arith, c.if-number-eq-STATUS.false) in
-    let b : eqb n 18 ≡ false = grind (arith, c.if-number-eq-USER-DEFAULTS.false) in
+    let b : eqb n 18 ≡ false = grind (arith, c.if-number-eq-USER_DEFAULTS.false) in
     record { value = ap (take (size_of n)) c.record.ensures.value ∙ other_shown (head_state c.args.self.now).interpreter n a b }

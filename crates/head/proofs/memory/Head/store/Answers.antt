@@ -5,13 +5,13 @@ use Rattle.head.specs.Meaning.{head_state}
 use Rattle.head.proofs.Accessing.{set_full}
 use Rattle.head.proofs.memory.Head.store.Goals as goal
 
-pub invariant-of-self-in-Data : goal.invariant-of-self-in-Data
-invariant-of-self-in-Data c =
+pub invariant_of-self-in-Data : goal.invariant_of-self-in-Data
+invariant_of-self-in-Data c =
     let i = c.args.self.now.inner in
     (i.code_bits, (i.count_bits, (i.size_bits, (set_full 16 i.«data» c.in-Data.place c.args.word i.data_full (omega arith), (i.block_full, tt)))))
 
-pub invariant-of-self-in-Block : goal.invariant-of-self-in-Block
-invariant-of-self-in-Block c =
+pub invariant_of-self-in-Block : goal.invariant_of-self-in-Block
+invariant_of-self-in-Block c =
     let i = c.args.self.now.inner in
     (i.code_bits, (i.count_bits, (i.size_bits, (i.data_full, (set_full 512 i.block c.in-Block.place c.args.word i.block_full (omega arith), tt)))))
 

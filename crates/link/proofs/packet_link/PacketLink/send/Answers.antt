@@ -49,13 +49,13 @@ module _ (access : Access) (s : CameraState) (request buffer : List ℕ) (size :
 
 pub unreachable-requires : goal.unreachable-requires
 unreachable-requires g c =
-    no_refusal c.args.access (g.B.Bus.state c.args.self.now.below) c.write-request-size.new.buffer c.args.reply.now
-    c.write-request-size.result c.requires c.write-request-size.ensures.packet c.in-Err.field-0
+    no_refusal c.args.access (g.B.Bus.state c.args.self.now.below) c.write_request-size.new.buffer c.args.reply.now
+    c.write_request-size.result c.requires c.write_request-size.ensures.packet c.in-Err.field-0
     (far_end c.serve.new.buffer (g.B.Bus.state c.serve.new.bus)) c.in-Err.ensures.outcome
 
 pub returns : goal.returns
 returns g c =
-    let back_at = back c.args.access (g.B.Bus.state c.args.self.now.below) c.write-request-size.new.buffer c.args.reply.now
-    c.write-request-size.result c.requires c.write-request-size.ensures.packet c.in-Ok.said
+    let back_at = back c.args.access (g.B.Bus.state c.args.self.now.below) c.write_request-size.new.buffer c.args.reply.now
+    c.write_request-size.result c.requires c.write_request-size.ensures.packet c.in-Ok.said
     (far_end c.serve.new.buffer (g.B.Bus.state c.serve.new.bus)) c.in-Ok.ensures.outcome in
     record { within = back_at.within; back = back_at.back; after = back_at.left }

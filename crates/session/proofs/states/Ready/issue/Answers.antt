@@ -13,7 +13,7 @@ returns-in-Ok g c =
     record {
       outcome = c.collect.ensures.outcome
           ∙ ap (λ order. outcome camera (parked order Waiting) (resume a.buffer.now a.budget) t) c.in-Ok.ensures.token
-          ∙ issued_whole a.order a.words.now a.buffer.now a.budget (g.B.Bus.state a.bus.now) t (sym c.in-default.ensures.value) c.requires c.in-Ok.ensures.outcome;
+          ∙ issued_whole a.order a.words.now a.buffer.now a.budget (g.B.Bus.state a.bus.now) t (sym c.in_default.ensures.value) c.requires c.in-Ok.ensures.outcome;
     }
 
 pub returns-in-Err-begin : goal.returns-in-Err-begin
@@ -21,6 +21,6 @@ returns-in-Err-begin g c =
     let a = c.args in
     let t = g.B.Bus.state c.begin.new.bus in
     record {
-      outcome = issued_not a.order a.words.now a.buffer.now a.budget (g.B.Bus.state a.bus.now) t c.in-Err-begin.refusal (sym c.in-default.ensures.value) c.requires
+      outcome = issued_not a.order a.words.now a.buffer.now a.budget (g.B.Bus.state a.bus.now) t c.in-Err-begin.refusal (sym c.in_default.ensures.value) c.requires
           c.in-Err-begin.ensures.outcome;
     }
