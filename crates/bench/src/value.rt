@@ -8,9 +8,9 @@ use words::{Region, WordCodec, WrongSize};
 #[derive(Clone, Copy)]
 pub(crate) enum ValueKind {
     Single,
-    u32,
+    Pair,
     Signed,
-    u64,
+    Quad,
     Region,
 }
 

@@ -11,9 +11,9 @@ use Rattle.driver.proofs.polling.poll.Goals as goal
 pub returns-in_err-status : goal.returns-in_err-status
 returns-in_err-status g c =
     let p = err_from_is_err_and c.from_residual.result c.from_residual.ensures.1 in
-    let left : 0 < c.args.budget - c.loop-polls.-polls = omega arith in
+    let left : 0 < c.args.budget - c.loop-polls._polls = omega arith in
     record {
-      outcome = rw (p.1, p.2) (sym (breaks_off camera (passes c.args.awaited) (c.args.budget - c.loop-polls.-polls) c.in_err-status.field-0.0
+      outcome = rw (p.1, p.2) (sym (breaks_off camera (passes c.args.awaited) (c.args.budget - c.loop-polls._polls) c.in_err-status.field-0.0
           (g.B.Bus.state c.loop-polls.bus) (g.B.Bus.state c.read_register.new.bus) left c.in_err-status.ensures.outcome)
           ∙ c.loop-polls.invariant);
     }
@@ -23,7 +23,7 @@ loop-polls-init g c = ap (λ n. polled camera (passes c.args.awaited) n (g.B.Bus
 
 pub loop-polls-preserved : goal.loop-polls-preserved
 loop-polls-preserved g c =
-    let i = c.loop-polls.-polls in
+    let i = c.loop-polls._polls in
     let left : 0 < c.args.budget - i = omega arith in
     let less : c.args.budget - (i + 1) ≡ c.args.budget - i - 1 = omega arith in
     ap (λ n. polled camera (passes c.args.awaited) n (g.B.Bus.state c.read_register.new.bus)) less
@@ -33,16 +33,16 @@ loop-polls-preserved g c =
 
 pub returns-then-is_shown : goal.returns-then-is_shown
 returns-then-is_shown g c =
-    let left : 0 < c.args.budget - c.loop-polls.-polls = omega arith in
+    let left : 0 < c.args.budget - c.loop-polls._polls = omega arith in
     record {
-      outcome = sym (shown_now camera (passes c.args.awaited) (c.args.budget - c.loop-polls.-polls) c.in_ok-status.status (g.B.Bus.state c.loop-polls.bus)
+      outcome = sym (shown_now camera (passes c.args.awaited) (c.args.budget - c.loop-polls._polls) c.in_ok-status.status (g.B.Bus.state c.loop-polls.bus)
           (g.B.Bus.state c.read_register.new.bus) left c.in_ok-status.ensures.outcome (sym c.is_shown.ensures.value ∙ c.if-is_shown.true))
           ∙ c.loop-polls.invariant;
     }
 
 pub returns-after-loop-polls : goal.returns-after-loop-polls
 returns-after-loop-polls g c =
-    let none : c.args.budget - c.loop-polls.-polls ≡ 0 = omega arith in
+    let none : c.args.budget - c.loop-polls._polls ≡ 0 = omega arith in
     record {
-      outcome = sym (none_left camera (passes c.args.awaited) (c.args.budget - c.loop-polls.-polls) (g.B.Bus.state c.loop-polls.bus) none) ∙ c.loop-polls.invariant;
+      outcome = sym (none_left camera (passes c.args.awaited) (c.args.budget - c.loop-polls._polls) (g.B.Bus.state c.loop-polls.bus) none) ∙ c.loop-polls.invariant;
     }

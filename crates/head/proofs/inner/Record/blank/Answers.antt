@@ -3,4 +3,4 @@ use Rattle.head.specs.Meaning.{zeros_below}
 use Rattle.head.proofs.inner.Record.blank.Goals as goal
 
 pub invariant_of-result : goal.invariant_of-result
-invariant_of-result c = ((refl, zeros_below 512), tt)
+invariant_of-result c = record { full = (refl, zeros_below 512) }
