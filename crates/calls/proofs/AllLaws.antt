@@ -1,16 +1,12 @@
 -- The laws of call sequences, from the facts about the camera and the walk through calls and sequences.
-use Rattle.std.proofs.Common.{◌≡◌, ℕ, false, List}
-use Rattle.camera.specs.State.{CameraState}
-use Rattle.calls.specs.Calls.{Session, Call}
 use Rattle.calls.specs.Accesses.{camera}
 use Rattle.calls.specs.Sequences.{ran}
-use Rattle.calls.specs.History.{History, known}
+use Rattle.calls.specs.History.{known}
 use Rattle.calls.specs.Laws.{LawsOfSequences}
-use Rattle.calls.proofs.Keeping.{Beside}
 use Rattle.calls.proofs.CameraKept.{camera_kept, fresh}
 use Rattle.calls.proofs.Walk as walk
 use Rattle.calls.proofs.Sequencing.{ran_append, unhung_and_counted, last_put}
-use Rattle.calls.proofs.Exchange.{RanAlike, RunsAlike, exchange}
+use Rattle.calls.proofs.Exchange.{RunsAlike, exchange}
 
 runs_alike : RunsAlike
 runs_alike start calls session s t h beside =

@@ -1,5 +1,5 @@
 -- Commands sent to two cameras that differ in their registers at most.
-use Rattle.std.proofs.Common.{◌≡◌, ℕ, ◌+◌, ◌%◌, ◌≤◌, Bool, true, false, cond, not, eqb, List, [], ◌∷◌, length, take, drop, ℤ, pos, Some, None, Ok, Err, Option, Result, sym, refl, ap, ◌∙◌, subst, subst₂, arith, w8, SFits}
+use Rattle.std.proofs.Common.{◌≡◌, ℕ, ◌+◌, ◌%◌, ◌≤◌, Bool, true, false, cond, eqb, List, [], ◌∷◌, length, take, drop, ℤ, pos, Some, None, Ok, Err, Option, Result, sym, refl, ap, ◌∙◌, subst, subst₂, arith, w8, SFits}
 use Rattle.std.proofs.lemmas.List.{length-append, length-drop, take_at}
 use Rattle.checks.specs.Tests.{first_failing}
 use Rattle.camera.specs.declared.attribute.Kind.{Kind}
@@ -11,7 +11,7 @@ use Rattle.camera.specs.declared.register.Register.TheVariants.{Command as Comma
 use Rattle.camera.specs.Registers.{address_of, over}
 use Rattle.camera.specs.Attributes.{asked, offers, restore, size_of, user_defaults, within}
 use Rattle.camera.specs.Commands.{command}
-use Rattle.camera.specs.Execution.{answered, bank, by_data, carried_out, commanded, counted, executed, judged, moved, next_busy, not_offered, only_saved, out_of_limits, restored, restore_done, save_done, standing, taken as taken_up, verdict, with_bank, with_one, wrong_size}
+use Rattle.camera.specs.Execution.{answered, bank, by_data, commanded, counted, executed, judged, moved, next_busy, not_offered, only_saved, out_of_limits, restored, restore_done, save_done, standing, taken as taken_up, verdict, with_bank, with_one, wrong_size}
 use Rattle.camera.specs.State.{CameraState, Interpreter, Registers, shown, with_code, with_saved, with_words}
 use Rattle.camera.specs.Steps.{Outcome, ended, later_acks, next_ack, unless_unacknowledged}
 use Rattle.calls.specs.declared.stage.Stage.TheVariants.{Waiting}

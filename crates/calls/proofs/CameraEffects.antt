@@ -1,12 +1,12 @@
 -- What a command leaves of what the interpreter holds, beside the ledger.
-use Rattle.std.proofs.Common.{◌≡◌, ℕ, Bool, true, false, cond, not, eqb, List, [], length, ℤ, pos, Some, None, Option, sym, refl, ap, ◌∙◌, arith, w8, SFits}
+use Rattle.std.proofs.Common.{◌≡◌, ℕ, Bool, true, false, cond, eqb, List, [], length, ℤ, pos, Some, None, Option, sym, refl, ap, ◌∙◌, arith, w8, SFits}
 use Rattle.checks.proofs.Passing.{refusal_among}
 use Rattle.camera.specs.declared.attribute.Kind.{Kind}
 use Rattle.camera.specs.declared.attribute.Kind.TheVariants.{Set}
 use Rattle.camera.specs.Attributes.{is_saved, size_of}
 use Rattle.camera.specs.Execution.{command_tests, only_saved, put_back, restored, verdict, with_one}
 use Rattle.camera.specs.State.{Interpreter, Registers, Words, with_saved, with_words}
-use Rattle.calls.specs.History.{Ledger, copied, copied_back, entered, put_into}
+use Rattle.calls.specs.History.{Ledger, copied, copied_back, put_into}
 use Rattle.calls.proofs.CameraTable.{number_bound, settable_from_saved}
 use Rattle.calls.proofs.Keeping.{Agrees, InterpreterFull, SavedAlike}
 

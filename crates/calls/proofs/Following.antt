@@ -1,6 +1,6 @@
 -- Two runs of the same calls side by side, and what calls and answers tell of them: which facts about sending, polling and
 -- fetching are enough for whole calls and whole sequences.
-use Rattle.std.proofs.Common.{◌≡◌, ℕ, zero, suc, ◌+◌, Bool, true, false, cond, List, [], ◌∷◌, length, ℤ, pos, negsuc, Some, None, Ok, Err, Option, Result}
+use Rattle.std.proofs.Common.{◌≡◌, ℕ, zero, suc, Bool, true, false, List, [], length, ℤ, pos, negsuc, Some, None, Ok, Err, Result}
 use Rattle.words.specs.Code.{code_of}
 use Rattle.camera.specs.declared.attribute.Kind.{Kind}
 use Rattle.camera.specs.declared.attribute.Kind.TheVariants.{Get, Set, Run}
@@ -11,7 +11,7 @@ use Rattle.camera.specs.Steps.{Outcome, ended}
 use Rattle.calls.specs.declared.stage.Stage.TheVariants.{Waiting, Reading}
 use Rattle.calls.specs.Calls.{Session, asleep, ready, parked}
 use Rattle.calls.specs.Outcomes.{Machine, Fetched, is_free, is_up}
-use Rattle.calls.specs.History.{Order, order, Ending, done, refused, owed, nothing, History, history, met, moved_on}
+use Rattle.calls.specs.History.{Order, order, done, refused, owed, nothing, History, history, met, moved_on}
 
 -- one fact or another, by an answer or by a test
 abbrev pub Holds : {A E : Type 0} → Result A E → (A → Type 0) → (E → Type 0) → Type 0

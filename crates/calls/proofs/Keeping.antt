@@ -1,14 +1,13 @@
 -- What goes with a session, two cameras that differ in their registers at most, and what is known of them.
-use Rattle.std.proofs.Common.{◌≡◌, ℕ, zero, suc, ◌+◌, ◌%◌, ◌<◌, ◌≤◌, Bool, true, false, cond, List, [], ◌∷◌, length, ℤ, pos, Some, None, Option, w8, SFits}
+use Rattle.std.proofs.Common.{◌≡◌, ℕ, ◌+◌, ◌%◌, ◌<◌, ◌≤◌, true, false, List, [], length, pos, Some, None, Option, w8, SFits}
 use Rattle.camera.specs.declared.attribute.Kind.{Kind}
 use Rattle.camera.specs.declared.attribute.Kind.TheVariants.{Get, Set, Run}
-use Rattle.camera.specs.declared.command.Command.{Command}
 use Rattle.camera.specs.Attributes.{size_of, offers, is_settable, is_saved}
 use Rattle.camera.specs.Execution.{standing}
 use Rattle.camera.specs.State.{CameraState, Registers, Interpreter, Words, shown, with_registers}
 use Rattle.calls.specs.declared.stage.Stage.TheVariants.{Waiting, Reading}
 use Rattle.calls.specs.Calls.{Session, asleep, ready, parked}
-use Rattle.calls.specs.History.{Order, order, Ledger, History, entered, taken}
+use Rattle.calls.specs.History.{order, Ledger, History, entered, taken}
 
 -- the registers are all there
 pub record RegistersFull (r : Registers) : Type 0 where

@@ -1,6 +1,5 @@
 -- A camera as a session uses it: each operation as reads and writes of registers.
-use Rattle.std.specs.Prelude.{ℕ, zero, suc, ◌+◌, ◌*◌, Bool, true, false, cond, List, [], ◌∷◌, Ok, Err, Result}
-use Rattle.camera.specs.declared.attribute.Kind.{Kind}
+use Rattle.std.specs.Prelude.{ℕ, suc, Bool, true, false, List, [], ◌∷◌, Ok, Err}
 use Rattle.camera.specs.declared.command.Command.{Command}
 use Rattle.camera.specs.declared.fault.Fault.{Fault}
 use Rattle.camera.specs.declared.register.Register.{Register}

@@ -1,5 +1,5 @@
 -- The first step of a command, taken singly: what is tested before it, and the command up to its command word.
-use Rattle.std.specs.Prelude.{ℕ, Bool, List, [], ◌∷◌, length, Some, None, Ok, Err, Option, Result, ◌==◌}
+use Rattle.std.specs.Prelude.{ℕ, Bool, List, [], ◌∷◌, length, Some, None, Ok, Err, ◌==◌}
 use Rattle.checks.specs.Tests.{first_failing}
 use Rattle.camera.specs.declared.attribute.Kind.{Kind}
 use Rattle.camera.specs.declared.attribute.Kind.TheVariants.{Get, Set, Run}

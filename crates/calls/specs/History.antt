@@ -1,6 +1,6 @@
 -- What calls and their answers alone tell: which command is owed an answer, how many commands were answered, and what was
 -- last put into each attribute. None of this looks at the session's state or uses the camera's own rules.
-use Rattle.std.specs.Prelude.{ℕ, zero, suc, ◌+◌, Bool, true, false, cond, List, [], ◌∷◌, Some, None, Ok, Err, Option, Result, ◌==◌}
+use Rattle.std.specs.Prelude.{ℕ, suc, ◌+◌, Bool, true, cond, List, [], ◌∷◌, Some, None, Ok, Err, Option, Result, ◌==◌}
 use Rattle.camera.specs.declared.attribute.Kind.{Kind}
 use Rattle.camera.specs.declared.attribute.Kind.TheVariants.{Get, Set, Run}
 use Rattle.camera.specs.declared.fault.Fault.{Fault}

@@ -1,11 +1,11 @@
 -- The laws of call sequences, over every state that a camera can have and that does not hang, and every list of calls on
 -- a session that is asleep.
-use Rattle.std.specs.Prelude.{◌≡◌, ℕ, ◌+◌, ◌%◌, Bool, true, false, cond, List, [], ◌∷◌, ◌++◌, length, take, drop, Some, None, Ok, Err, Option, Result, ◌==◌}
+use Rattle.std.specs.Prelude.{◌≡◌, ℕ, ◌+◌, ◌%◌, true, false, cond, List, [], ◌∷◌, ◌++◌, length, take, drop, Some, None, Ok, Option, ◌==◌}
 use Rattle.std.specs.List.{slice_get}
 use Rattle.camera.specs.declared.attribute.Kind.TheVariants.{Get}
 use Rattle.camera.specs.Attributes.{is_settable, is_saved}
 use Rattle.camera.specs.State.{CameraState, Possible}
-use Rattle.calls.specs.Calls.{Session, asleep, Call, set}
+use Rattle.calls.specs.Calls.{asleep, Call, set}
 use Rattle.calls.specs.Accesses.{camera}
 use Rattle.calls.specs.Sequences.{Answer, Ran, ran}
 use Rattle.calls.specs.History.{Order, order, Ledger, History, history, speaks_for, noted, known, taken}

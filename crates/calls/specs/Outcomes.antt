@@ -1,6 +1,6 @@
 -- The outcome of every call in every state of a session. It rests on three operations on whatever stands behind the bus:
 -- sending a command, reading the status once, and fetching an attribute's words.
-use Rattle.std.specs.Prelude.{ℕ, zero, suc, ◌+◌, ◌/◌, ◌%◌, Bool, true, false, cond, List, [], ◌∷◌, ℤ, pos, negsuc, Some, None, Ok, Err, Option, Result, ◌==◌}
+use Rattle.std.specs.Prelude.{ℕ, zero, suc, ◌/◌, ◌%◌, Bool, cond, List, [], ℤ, pos, negsuc, Some, None, Ok, Err, Result, ◌==◌}
 use Rattle.checks.specs.Tests.{both}
 use Rattle.words.specs.Code.{code_of}
 use Rattle.camera.specs.declared.attribute.Kind.{Kind}

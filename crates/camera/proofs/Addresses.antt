@@ -1,8 +1,8 @@
 -- Each register has one address.
-use Rattle.std.proofs.Common.{◌≡◌, ℕ, ◌+◌, ◌-◌, ◌*◌, ◌/◌, ◌%◌, ◌<◌, ◌≤◌, Bool, true, false, cond, eqb, leb, Ok, Err, sym, refl, ap, ◌∙◌, arith}
+use Rattle.std.proofs.Common.{◌≡◌, ℕ, Ok, refl, ap, ◌∙◌, arith}
 use Rattle.camera.specs.declared.register.Register.{Register}
 use Rattle.camera.specs.declared.register.Register.TheVariants.{Power, Status, Command, Length, Data, Block}
-use Rattle.camera.specs.Registers.{lies_in, place_in, register_at, address_of, Exists, OneAddress, data_base, data_size, block_base, block_size}
+use Rattle.camera.specs.Registers.{register_at, address_of, Exists, OneAddress}
 
 back : (register : Register) → Exists register → register_at (address_of register) ≡ Ok register
 back Power h = refl

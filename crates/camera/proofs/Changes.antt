@@ -1,14 +1,14 @@
 -- What commands change.
-use Rattle.std.proofs.Common.{◌≡◌, ℕ, Bool, true, false, cond, not, eqb, List, [], ◌∷◌, ℤ, pos, negsuc, Some, None, Ok, Err, Option, Result, sym, refl, ap, ◌∙◌, subst, arith, eq-eqb}
+use Rattle.std.proofs.Common.{◌≡◌, ℕ, Bool, true, false, cond, eqb, List, [], ◌∷◌, ℤ, pos, Some, None, Ok, Err, Option, Result, refl, ap, ◌∙◌, subst, arith, eq-eqb}
 use Rattle.camera.specs.declared.attribute.Kind.{Kind}
 use Rattle.camera.specs.declared.attribute.Kind.TheVariants.{Get, Set, Run}
 use Rattle.camera.specs.declared.command.Command.{Command as Asked}
 use Rattle.camera.specs.Attributes.{is_saved, user_defaults, restore}
 use Rattle.camera.specs.Commands.{command, command_of}
 use Rattle.camera.specs.State.{CameraState, Interpreter, Words, with_boot, with_busy}
-use Rattle.checks.specs.Tests.{both, first_failing, AllPass}
+use Rattle.checks.specs.Tests.{AllPass}
 use Rattle.checks.proofs.Passing.{all_pass, refusal_among}
-use Rattle.camera.specs.Execution.{already_saved, answered, carried_out, command_tests, commanded, executed, is_some, judged, not_offered, nothing_saved, only_saved, out_of_limits, put_back, restore_done, restored, save_done, standing, taken, verdict, with_one, wrong_size}
+use Rattle.camera.specs.Execution.{answered, carried_out, command_tests, commanded, executed, judged, only_saved, put_back, restore_done, restored, save_done, standing, taken, verdict, with_one}
 use Rattle.camera.specs.declared.fault.Fault.{Fault}
 use Rattle.camera.specs.declared.mode.Mode.{Mode}
 use Rattle.camera.specs.declared.mode.Mode.TheVariants.{Hung, Booting, Busy, Idle}
@@ -16,7 +16,7 @@ use Rattle.camera.specs.declared.register.Register.{Register}
 use Rattle.camera.specs.declared.register.Register.TheVariants.{Power, Status, Command, Length, Data, Block}
 use Rattle.camera.specs.Registers.{register_at}
 use Rattle.camera.specs.Steps.{Outcome, access, after_read, after_write, at_status, marked, mode, next_ack, read_effect, read_step, unless_unacknowledged, write_effect, write_step}
-use Rattle.camera.specs.Laws.{Access, reads, writes, words_of, CarriedOut, SetChangesOne, SetsChangeOne, GetChangesNone, GetsChangeNone, ComesBack, DefaultsComeBack, after}
+use Rattle.camera.specs.Laws.{Access, reads, writes, words_of, CarriedOut, SetChangesOne, SetsChangeOne, GetChangesNone, GetsChangeNone, DefaultsComeBack, after}
 
 -- the state after a command word that asks for a command
 commanded_is : (s : CameraState) (word : ℕ) (c : Asked) → command_of word ≡ Some c → commanded word s ≡ executed (Some c) (taken s)

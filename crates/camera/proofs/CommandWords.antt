@@ -1,5 +1,5 @@
 -- Each command has one word, and each word asks for one command at most.
-use Rattle.std.proofs.Common.{◌≡◌, ℕ, zero, suc, ◌+◌, ◌-◌, ◌*◌, ◌/◌, ◌%◌, ◌<◌, ◌≤◌, Bool, true, false, cond, not, eqb, ltb, List, [], ◌∷◌, length, Some, None, Option, sym, refl, ap, ◌∙◌, ap₂, add-zero, add-suc, suc-add, zero-add, arith}
+use Rattle.std.proofs.Common.{◌≡◌, ℕ, zero, suc, ◌+◌, ◌*◌, ◌/◌, ◌%◌, ◌<◌, ◌≤◌, Bool, true, false, cond, eqb, ltb, List, [], ◌∷◌, length, Some, None, Option, sym, refl, ap, ◌∙◌, ap₂, add-zero, add-suc, suc-add, zero-add, arith}
 use Rattle.std.specs.List.{slice_get}
 use Rattle.camera.specs.declared.attribute.Attribute.{Attribute}
 use Rattle.camera.specs.declared.attribute.Kind.{Kind}
@@ -8,7 +8,7 @@ use Rattle.camera.specs.declared.command.Command.{Command}
 use Rattle.checks.specs.Tests.{both}
 use Rattle.camera.specs.Attributes.{attributes, attribute_at}
 use Rattle.camera.proofs.Lists.{every_at}
-use Rattle.camera.specs.Commands.{type_bits, kind_of, module_of, protection, directory_place, no_attribute, found_from, attribute_in, is_known, command, command_with, command_of, word_with, word_of, OneWord}
+use Rattle.camera.specs.Commands.{type_bits, kind_of, module_of, protection, directory_place, found_from, attribute_in, is_known, command, command_with, command_of, word_with, word_of, OneWord}
 
 -- Bases have no type bits and nothing above the module, and each stands in the directory for its own attribute alone.
 base_is_right : ℕ → Attribute → Bool

@@ -3,10 +3,10 @@ use Rattle.std.proofs.Common.{◌≡◌, ℕ, Bool, true, false, Ok, Err, Result
 use Rattle.camera.specs.declared.fault.Fault.{Fault}
 use Rattle.camera.specs.declared.fault.Fault.TheVariants.{NotAcknowledged, NoRegister}
 use Rattle.camera.specs.declared.register.Register.{Register}
-use Rattle.camera.specs.Laws.{FaultsAt, FaultsKeepAddresses}
+use Rattle.camera.specs.Laws.{FaultsKeepAddresses}
 use Rattle.camera.specs.Registers.{fault_address, register_at}
 use Rattle.camera.specs.State.{CameraState}
-use Rattle.camera.specs.Steps.{Outcome, access, marked, next_ack, read_effect, read_step, unless_unacknowledged, write_effect, write_step}
+use Rattle.camera.specs.Steps.{access, marked, next_ack, read_step, unless_unacknowledged, write_step}
 
 no_register : (address : ℕ) (fault : Fault) → register_at address ≡ Err fault → fault ≡ NoRegister address
 no_register address fault e = grind arith

@@ -1,5 +1,5 @@
 -- No attribute has more words than the block buffer.
-use Rattle.std.proofs.Common.{◌≡◌, ℕ, ◌≤◌, Bool, true, leb, Some, None, Option, sym, refl, ap, ◌∙◌, zero-add, arith}
+use Rattle.std.proofs.Common.{◌≡◌, ℕ, ◌≤◌, Bool, leb, Some, None, Option, refl, arith}
 use Rattle.camera.specs.declared.attribute.Attribute.{Attribute}
 use Rattle.camera.specs.Attributes.{attributes, attribute_at, size_of}
 use Rattle.camera.proofs.Lists.{every_at}

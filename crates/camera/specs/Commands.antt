@@ -1,6 +1,6 @@
 -- Command words: bits 1 and 0 are the type (0 get, 1 set, 2 run), bits 7 to 2 the command, bits 11 to 8 the module, and
 -- bit 14 the protection bit, which stands for module 8 and for no other.
-use Rattle.std.specs.Prelude.{◌≡◌, ℕ, zero, suc, ◌+◌, ◌*◌, ◌/◌, ◌%◌, ◌<◌, Bool, true, false, cond, not, List, [], ◌∷◌, Some, None, Option, ◌==◌}
+use Rattle.std.specs.Prelude.{◌≡◌, ℕ, zero, suc, ◌+◌, ◌*◌, ◌/◌, ◌%◌, Bool, cond, not, List, [], ◌∷◌, Some, None, Option, ◌==◌}
 use Rattle.camera.specs.declared.attribute.Attribute.{Attribute}
 use Rattle.camera.specs.declared.attribute.Kind.{Kind}
 use Rattle.camera.specs.declared.attribute.Kind.TheVariants.{Get, Set, Run}

@@ -1,8 +1,7 @@
 -- What a word in the command register does to an idle camera.
-use Rattle.std.specs.Prelude.{ℕ, zero, suc, ◌+◌, ◌%◌, Bool, true, false, cond, not, List, [], ◌∷◌, take, ℤ, pos, negsuc, Some, None, Option, ◌==◌, nat_le}
+use Rattle.std.specs.Prelude.{ℕ, ◌+◌, ◌%◌, Bool, true, false, cond, not, List, [], ◌∷◌, take, ℤ, pos, negsuc, Some, None, Option, ◌==◌, nat_le}
 use Rattle.camera.specs.declared.attribute.Kind.{Kind}
 use Rattle.camera.specs.declared.attribute.Kind.TheVariants.{Get, Set, Run}
-use Rattle.camera.specs.declared.attribute.Limits.TheVariants.{Fixed}
 use Rattle.camera.specs.declared.command.Command.{Command}
 use Rattle.checks.specs.Tests.{both, first_failing}
 use Rattle.camera.specs.Registers.{over}

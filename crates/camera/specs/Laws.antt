@@ -1,5 +1,5 @@
 -- What commands can and cannot change, over all states, all command words and all sequences of accesses.
-use Rattle.std.specs.Prelude.{◌≡◌, ℕ, Bool, true, false, List, [], ◌∷◌, pos, Some, Err, ◌==◌}
+use Rattle.std.specs.Prelude.{◌≡◌, ℕ, true, false, List, [], ◌∷◌, pos, Some, Err, ◌==◌}
 use Rattle.camera.specs.declared.attribute.Kind.TheVariants.{Get, Set, Run}
 use Rattle.camera.specs.declared.fault.Fault.{Fault}
 use Rattle.camera.specs.Attributes.{is_saved, user_defaults, restore}

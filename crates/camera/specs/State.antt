@@ -1,5 +1,5 @@
 -- The state of the camera behind a bus.
-use Rattle.std.specs.Prelude.{◌≡◌, ℕ, ◌+◌, ◌*◌, ◌<◌, Bool, true, false, cond, List, [], ◌∷◌, ℤ, Some, None, Option, FitsSigned, ◌==◌}
+use Rattle.std.specs.Prelude.{◌≡◌, ℕ, ◌<◌, Bool, true, cond, List, [], ◌∷◌, ℤ, Some, None, Option, FitsSigned, ◌==◌}
 use Rattle.std.specs.Int.{w8}
 use Rattle.words.specs.Words.{Words as Filled}
 use Rattle.camera.specs.Registers.{data_size, block_size}

@@ -1,5 +1,5 @@
 -- What a read and a write answer, and what they leave.
-use Rattle.std.specs.Prelude.{ℕ, zero, suc, ◌+◌, ◌*◌, Bool, true, false, cond, List, [], ◌∷◌, ℤ, Ok, Err, Result, slice_index, slice_set}
+use Rattle.std.specs.Prelude.{ℕ, zero, suc, ◌+◌, ◌*◌, Bool, true, false, List, [], ◌∷◌, ℤ, Ok, Err, Result, slice_index, slice_set}
 use Rattle.std.specs.Int.{w8}
 use Rattle.std.proofs.Common.{of_z}
 use Rattle.camera.specs.declared.fault.Fault.{Fault}
@@ -9,7 +9,7 @@ use Rattle.camera.specs.declared.mode.Mode.TheVariants.{Hung, Booting, Busy, Idl
 use Rattle.camera.specs.declared.register.Register.{Register}
 use Rattle.camera.specs.declared.register.Register.TheVariants.{Power, Status, Command, Length, Data, Block}
 use Rattle.camera.specs.Registers.{register_at}
-use Rattle.camera.specs.State.{CameraState, Registers, hanging, with_acks, with_boot, with_busy, with_registers}
+use Rattle.camera.specs.State.{CameraState, hanging, with_acks, with_boot, with_busy, with_registers}
 use Rattle.camera.specs.Execution.{commanded}
 
 -- an action on a state: what it answers, and the state after it

@@ -1,5 +1,5 @@
 -- Tests in order: they all pass if and only if the value is given, and what they refuse with is one of theirs.
-use Rattle.std.proofs.Common.{◌≡◌, Bool, true, false, cond, List, [], ◌∷◌, Some, None, Ok, Err, Option, Result, sym, refl, ap, ◌∙◌, subst, arith}
+use Rattle.std.proofs.Common.{◌≡◌, Bool, true, false, cond, List, [], ◌∷◌, Some, None, Ok, Err, Option, Result, refl, subst, arith}
 use Rattle.checks.specs.Tests.{first_failing, judged, AllPass, AllRefuse}
 
 pub judged_ok : {A E : Type 0} (tests : List (Bool × E)) (value : A) → first_failing tests ≡ None → judged tests value ≡ Ok value

@@ -1,7 +1,7 @@
 -- Bytes with their checksum behind them have checksum 0; the checksum of bytes fits sixteen bits.
-use Rattle.std.proofs.Common.{◌≡◌, ℕ, zero, suc, ◌+◌, ◌-◌, ◌*◌, ◌/◌, ◌%◌, ◌^◌, ◌<◌, ◌≤◌, List, [], ◌∷◌, ◌++◌, sym, refl, ap, ◌∙◌, ap₂, div-add-mod', mul-one, arith}
-use lib.Bits.{bit_xor, xor_self, xor_lt, xor_mod}
-use Rattle.crc.specs.Crc.{generator, shift_bit, shift, feed, crc_from, crc_of, crc_bytes, Bytes}
+use Rattle.std.proofs.Common.{◌≡◌, ℕ, zero, suc, ◌/◌, ◌%◌, ◌<◌, List, [], ◌∷◌, ◌++◌, sym, refl, ap, ◌∙◌, div-add-mod', mul-one, arith}
+use lib.Bits.{bit_xor, xor_self}
+use Rattle.crc.specs.Crc.{shift_bit, shift, feed, crc_from, crc_bytes}
 use Rattle.crc.proofs.Steps.{feed_add}
 
 pub crc_append : (xs ys : List ℕ) (c : ℕ) → crc_from c (xs ++ ys) ≡ crc_from (crc_from c xs) ys

@@ -1,5 +1,5 @@
 -- The laws of the division's steps, over the number of bits: a table for bytes and one for half bytes are two instances.
-use Rattle.std.proofs.Common.{◌≡◌, ℕ, zero, suc, ◌+◌, ◌-◌, ◌*◌, ◌/◌, ◌%◌, ◌^◌, ◌<◌, ◌≤◌, sym, refl, ap, ◌∙◌, ap₂, lt_of_lt_of_le, add-zero, mod-lt, mul_assoc, mul_comm, add-mul, suc-add, div-add-mod', zero-add, mul-one, sub-add_cancel, arith, pow_pos, pow_mono, pow-add}
+use Rattle.std.proofs.Common.{◌≡◌, ℕ, zero, suc, ◌+◌, ◌-◌, ◌*◌, ◌/◌, ◌%◌, ◌^◌, ◌<◌, ◌≤◌, sym, ap, ◌∙◌, ap₂, lt_of_lt_of_le, add-zero, mod-lt, mul_assoc, add-mul, suc-add, div-add-mod', zero-add, mul-one, arith, pow_pos, pow_mono, pow-add}
 use native.Mathlib.Nat.{pow-succ', div-eq_of_lt}
 use lib.Bits.{bit_xor, xor_assoc, xor_comm, xor_block, xor_shr, xor_shifted, xor_zero_r}
 use Rattle.std.proofs.lemmas.Nat.{shl_below}

@@ -1,7 +1,7 @@
 -- CRC-CCITT-16, bit by bit: the message is divided by the polynomial x^16 + x^12 + x^5 + 1 over the field of two
 -- elements, and the checksum is the remainder that a sixteen-bit register holds at the end. The register starts at 0,
 -- and the bits of a byte go in highest first.
-use Rattle.std.specs.Prelude.{ℕ, zero, suc, ◌+◌, ◌-◌, ◌*◌, ◌/◌, ◌%◌, ◌^◌, ◌<◌, List, [], ◌∷◌, bit_xor, slice_index}
+use Rattle.std.specs.Prelude.{ℕ, zero, suc, ◌-◌, ◌*◌, ◌/◌, ◌%◌, ◌^◌, ◌<◌, List, [], ◌∷◌, bit_xor, slice_index}
 
 -- the polynomial: bit k stands for x^k
 abbrev pub generator : ℕ

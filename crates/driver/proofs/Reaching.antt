@@ -1,5 +1,5 @@
 -- An access to the address of a register is one to that register.
-use Rattle.std.proofs.Common.{◌≡◌, ℕ, Ok, sym, refl, ap, ◌∙◌}
+use Rattle.std.proofs.Common.{◌≡◌, ℕ, Ok, ap, ◌∙◌}
 use Rattle.camera.specs.declared.register.Register.{Register}
 use Rattle.camera.specs.Registers.{Exists, address_of, register_at}
 use Rattle.camera.specs.State.{CameraState}

@@ -1,8 +1,7 @@
 -- One status read more: how it moves on what is still to be polled.
-use Rattle.std.proofs.Common.{◌≡◌, ℕ, zero, suc, ◌+◌, ◌-◌, ◌<◌, ◌≤◌, Bool, true, false, cond, Ok, Err, Result, sym, refl, ap, ◌∙◌, arith}
+use Rattle.std.proofs.Common.{◌≡◌, ℕ, zero, suc, ◌-◌, ◌<◌, Bool, true, false, cond, Ok, Err, sym, ap, ◌∙◌, arith}
 use Rattle.camera.specs.declared.fault.Fault.{Fault}
-use Rattle.camera.specs.Steps.{Outcome, ended}
-use Rattle.calls.specs.declared.refusal.Refusal.{Refusal}
+use Rattle.camera.specs.Steps.{ended}
 use Rattle.calls.specs.declared.refusal.Refusal.TheVariants.{Bus, StillBusy}
 use Rattle.calls.specs.Outcomes.{Machine, by_answer, polled}
 

@@ -1,10 +1,10 @@
 -- One word more, written or read.
-use Rattle.std.proofs.Common.{◌≡◌, ℕ, zero, suc, ◌+◌, ◌<◌, ◌≤◌, Bool, true, false, List, [], ◌∷◌, ◌++◌, length, get_or, take, drop, set, Ok, Err, Result, sym, refl, ap, ◌∙◌, ap₂, append_assoc, append-nil, add-one, arith, take-append-drop, take_all, drop-cons, eqb-true}
+use Rattle.std.proofs.Common.{◌≡◌, ℕ, suc, ◌+◌, ◌<◌, ◌≤◌, Bool, true, false, List, [], ◌∷◌, ◌++◌, length, get_or, take, drop, set, Ok, Err, sym, refl, ap, ◌∙◌, ap₂, append_assoc, append-nil, add-one, arith, take-append-drop, take_all, drop-cons, eqb-true}
 use Rattle.std.proofs.lemmas.List.{drop_all, drop-set-lt, take_more_set}
 use Rattle.camera.specs.declared.fault.Fault.{Fault}
 use Rattle.camera.specs.declared.register.Register.{Register}
 use Rattle.camera.specs.State.{CameraState}
-use Rattle.camera.specs.Steps.{Outcome, ended}
+use Rattle.camera.specs.Steps.{ended}
 use Rattle.calls.specs.Outcomes.{Fetched, by_answer}
 use Rattle.checks.specs.Tests.{judged}
 use Rattle.checks.proofs.Passing.{all_pass, judged_back}

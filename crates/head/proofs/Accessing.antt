@@ -1,5 +1,5 @@
 -- One access, put together from decoding, acknowledgement and effect.
-use Rattle.std.proofs.Common.{◌≡◌, ℕ, zero, suc, ◌<◌, Bool, true, false, List, [], ◌∷◌, length, get_or, set, Ok, Err, Result, sym, refl, ap, ◌∙◌, ap₂, arith}
+use Rattle.std.proofs.Common.{◌≡◌, ℕ, zero, suc, ◌<◌, Bool, true, false, List, [], ◌∷◌, get_or, set, Ok, Err, Result, ap, ◌∙◌, ap₂, arith}
 use Rattle.std.proofs.lemmas.List.{length-set}
 use Rattle.words.specs.Words.{Words}
 use Rattle.camera.specs.declared.fault.Fault.{Fault}

@@ -1,5 +1,5 @@
 -- What an attribute shows, from a record.
-use Rattle.std.proofs.Common.{◌≡◌, ℕ, Bool, true, false, cond, eqb, List, [], ◌∷◌, take, sym, refl, ap, ◌∙◌, ap₂}
+use Rattle.std.proofs.Common.{◌≡◌, ℕ, false, cond, eqb, List, [], ◌∷◌, take, sym, ap, ◌∙◌}
 use Rattle.camera.specs.Attributes.{attribute_at, size_of}
 use Rattle.camera.specs.State.{Interpreter, saved_flag, shown}
 

@@ -1,5 +1,5 @@
 -- Making a head: the limits, and the state that is made.
-use Rattle.std.specs.Prelude.{ℕ, Bool, true, false, cond, List, [], ◌∷◌, length, replicate, pos, None, vec_items, vec_len, ◌==◌, nat_le}
+use Rattle.std.specs.Prelude.{ℕ, Bool, false, cond, [], ◌∷◌, replicate, pos, None, vec_items, vec_len, ◌==◌, nat_le}
 use Rattle.checks.specs.Tests.{both}
 use Rattle.words.specs.Words.{number_words}
 use Rattle.camera.specs.Registers.{data_size, block_size}

@@ -3,7 +3,7 @@ use Rattle.std.specs.Prelude.{ℕ, zero, suc, ◌<◌, List, take, replicate, So
 use Rattle.std.proofs.Common.{lit<}
 use Rattle.camera.specs.Attributes.{size_of}
 use Rattle.camera.specs.Execution.{only_saved}
-use Rattle.camera.specs.State.{CameraState, Registers, Interpreter, Words}
+use Rattle.camera.specs.State.{CameraState, Registers, Words}
 use Rattle.head.specs.declared.inner.Inner.{Inner}
 use Rattle.head.specs.declared.inner.Record.{Record}
 use Rattle.head.specs.declared.inner.Table.{Table}

@@ -1,5 +1,5 @@
 -- What the two ends of a line do together.
-use Rattle.std.proofs.Common.{◌≡◌, ℕ, ◌≤◌, false, cond, ltb, ◌⊎◌, List, length, Ok, Err, Result, sym, refl, ap, ◌∙◌, inl, inr, arith}
+use Rattle.std.proofs.Common.{◌≡◌, ℕ, false, cond, ltb, ◌⊎◌, List, length, Ok, Err, Result, sym, refl, ap, ◌∙◌, inl, inr, arith}
 use Rattle.crc.specs.Crc.{Bytes}
 use Rattle.camera.specs.declared.fault.Fault.{Fault}
 use Rattle.camera.specs.declared.fault.Fault.TheVariants.{NotAcknowledged, NoRegister}
@@ -14,13 +14,12 @@ use Rattle.packet.specs.declared.Function.TheVariants.{Read, Write}
 use Rattle.packet.specs.declared.PacketRefusal.{PacketRefusal}
 use Rattle.packet.specs.declared.PacketRefusal.TheVariants.{Buffer}
 use Rattle.packet.specs.declared.Reply.{Reply}
-use Rattle.packet.specs.Layout.{reply_function, reply_packet, request_packet, room}
+use Rattle.packet.specs.Layout.{reply_function, reply_packet, request_packet}
 use Rattle.packet.specs.Reading.{reply_of, request_of}
 use Rattle.packet.proofs.Standing.{reply_stands, request_stands}
-use Rattle.link.specs.declared.answers.Answer.{Answer}
 use Rattle.link.specs.declared.answers.Answer.TheVariants.{Word, Done}
 use Rattle.link.specs.Line.{address_of, answer_in, as_answer, carried, denial_of, denied, fault_at, function_of, reply_for}
-use Rattle.link.specs.Ends.{AccessesCross, FarEnd, OnlyReplies, OnlyRequests, answered, answered_as, far_end, reply_read, reply_to, served, served_as}
+use Rattle.link.specs.Ends.{AccessesCross, OnlyReplies, OnlyRequests, answered, answered_as, far_end, reply_read, reply_to, served, served_as}
 
 -- A fault comes back as it was, at the address of the access.
 fault_back : (address : ℕ) (fault : Fault) → fault_address fault ≡ address → fault_at address (denial_of fault) ≡ fault

@@ -1,12 +1,11 @@
 -- Packets fit into a buffer that has room for the largest one, and stand at its front.
-use Rattle.std.proofs.Common.{◌≡◌, ℕ, ◌+◌, ◌-◌, ◌≤◌, false, cond, ltb, List, ◌++◌, length, take, drop, Ok, Err, Result, sym, refl, ap, ◌∙◌, arith}
+use Rattle.std.proofs.Common.{◌≡◌, ℕ, ◌≤◌, false, ltb, List, length, take, drop, Ok, Err, refl, arith}
 use Rattle.std.proofs.lemmas.List.{take_at}
 use Rattle.packet.specs.declared.Access.{Access}
 use Rattle.packet.specs.declared.Access.TheVariants.{Read as ReadAccess, Write as WriteAccess}
-use Rattle.packet.specs.declared.PacketRefusal.{PacketRefusal}
 use Rattle.packet.specs.declared.Reply.{Reply}
 use Rattle.packet.specs.declared.Reply.TheVariants.{Read as ReadReply, Write as WriteReply}
-use Rattle.packet.specs.Layout.{buffer_after, over, packet, reply_content, reply_packet, request_content, request_packet, room, written}
+use Rattle.packet.specs.Layout.{buffer_after, over, reply_content, reply_packet, request_content, request_packet, room, written}
 use Rattle.packet.proofs.Contents.{packet_length}
 
 pub request_fits : (access : Access) → length (request_packet access) ≤ room

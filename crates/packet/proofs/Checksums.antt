@@ -1,5 +1,5 @@
 -- Words as bytes, and byte strings that end in their checksum.
-use Rattle.std.proofs.Common.{◌≡◌, ℕ, zero, suc, ◌+◌, ◌-◌, ◌*◌, ◌/◌, ◌%◌, ◌<◌, ◌≤◌, true, T, eqb, List, [], ◌∷◌, ◌++◌, length, get_or, take, drop, sym, refl, ap, ◌∙◌, ap₂, div-add-mod', add-sub_cancel, arith, eqb→eq, eq-eqb}
+use Rattle.std.proofs.Common.{◌≡◌, ℕ, zero, suc, ◌+◌, ◌-◌, ◌*◌, ◌/◌, ◌%◌, ◌<◌, ◌≤◌, true, List, [], ◌∷◌, ◌++◌, length, get_or, take, drop, sym, refl, ap, ◌∙◌, ap₂, div-add-mod', add-sub_cancel, arith, eq-eqb}
 use Rattle.std.proofs.lemmas.List.{length-append, get_or-append-add, get_or-drop, take_at, take-append-drop, length-drop}
 use Rattle.crc.specs.Crc.{crc_of, crc_bytes, Bytes}
 use Rattle.packet.specs.Layout.{be_bytes, be_word, with_checksum}

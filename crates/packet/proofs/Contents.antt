@@ -1,11 +1,10 @@
 -- A packet is read as what it says, and no other byte string is.
-use Rattle.std.proofs.Common.{◌≡◌, ℕ, zero, suc, ◌+◌, ◌-◌, ◌*◌, ◌/◌, ◌%◌, ◌<◌, ◌≤◌, Bool, true, eqb, leb, List, [], ◌∷◌, ◌++◌, length, get_or, take, drop, None, Ok, sym, refl, ap, ◌∙◌, ap₂, div-add-mod', add-sub_cancel, arith, eq-eqb}
-use Rattle.std.proofs.lemmas.List.{length-append, length-take, take-take, take_at, take-append-drop, drop-take, get_or-take, length-drop}
+use Rattle.std.proofs.Common.{◌≡◌, ℕ, ◌+◌, ◌-◌, ◌≤◌, true, eqb, leb, List, [], ◌∷◌, ◌++◌, length, get_or, take, drop, None, Ok, sym, refl, ap, ◌∙◌, ap₂, div-add-mod', arith, eq-eqb}
+use Rattle.std.proofs.lemmas.List.{length-append, length-take, take-take, take_at, take-append-drop, drop-take, length-drop}
 use Rattle.crc.specs.Crc.{crc_of, crc_bytes, Bytes}
-use Rattle.packet.specs.declared.PacketRefusal.TheVariants.{Length, Start, FrontChecksum, Checksum, Reserved}
-use Rattle.packet.specs.Layout.{Content, process_code, be_bytes, be_word, front, with_checksum, packet}
+use Rattle.packet.specs.Layout.{Content, process_code, be_bytes, front, with_checksum, packet}
 use Rattle.packet.specs.Reading.{byte_at, word_at, ends_in_checksum, packet_tests, content_in, content_of}
-use Rattle.checks.specs.Tests.{first_failing, judged}
+use Rattle.checks.specs.Tests.{first_failing}
 use Rattle.checks.proofs.Passing.{judged_ok, judged_back, none_fails, all_pass}
 use Rattle.packet.proofs.Checksums.{be_back, bytes_take, bytes_drop, length_sealed, sealed_ends, ends_back}
 

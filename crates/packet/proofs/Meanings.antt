@@ -1,18 +1,17 @@
 -- The content of a request is read as its access, the content of a reply as the reply, and no other content is.
-use Rattle.std.proofs.Common.{◌≡◌, ℕ, zero, suc, ◌+◌, ◌*◌, ◌/◌, ◌%◌, ◌<◌, ◌≤◌, Bool, true, false, cond, eqb, leb, List, [], ◌∷◌, ◌++◌, length, get_or, None, Ok, Err, Result, sym, refl, ap, ◌∙◌, ap₂, div-add-mod', arith}
+use Rattle.std.proofs.Common.{◌≡◌, ℕ, zero, suc, ◌+◌, Bool, true, false, cond, eqb, List, [], ◌∷◌, ◌++◌, length, get_or, None, Ok, Err, sym, refl, ap, ◌∙◌, ap₂, div-add-mod', arith}
 use Rattle.std.proofs.lemmas.List.{nil_from_length}
 use Rattle.crc.specs.Crc.{Bytes}
 use Rattle.packet.specs.declared.Access.{Access}
 use Rattle.packet.specs.declared.Access.TheVariants.{Read as ReadAccess, Write as WriteAccess}
-use Rattle.packet.specs.declared.Denial.{Denial}
 use Rattle.packet.specs.declared.Denial.TheVariants.{NotAcknowledged, NoRegister}
 use Rattle.packet.specs.declared.Function.{Function}
 use Rattle.packet.specs.declared.Function.TheVariants.{Read, Write}
 use Rattle.packet.specs.declared.Reply.{Reply}
 use Rattle.packet.specs.declared.Reply.TheVariants.{Read as ReadReply, Write as WriteReply}
-use Rattle.packet.specs.Layout.{Content, be_bytes, be_word, function_code, request_content, answer_content, reply_content, reply_function}
+use Rattle.packet.specs.Layout.{Content, be_bytes, function_code, request_content, answer_content, reply_content, reply_function}
 use Rattle.packet.specs.Reading.{word_at, request_tests, asked, access_of, reply_tests, reply_fits, answer_count, answered, said, answer_of}
-use Rattle.checks.specs.Tests.{AllPass, both, first_failing}
+use Rattle.checks.specs.Tests.{AllPass, first_failing}
 use Rattle.checks.proofs.Passing.{judged_back, all_pass}
 use Rattle.packet.proofs.Checksums.{be_back, two_long, four_long}
 

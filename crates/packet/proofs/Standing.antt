@@ -1,12 +1,11 @@
 -- Packets and their meaning stand for one another: the laws of requests and of replies.
-use Rattle.std.proofs.Common.{◌≡◌, ℕ, List, Ok, Err, Result, sym, refl, ap, ◌∙◌, arith}
+use Rattle.std.proofs.Common.{◌≡◌, ℕ, List, Ok, Err, Result, refl, ap, ◌∙◌, arith}
 use Rattle.crc.specs.Crc.{Bytes}
 use Rattle.packet.specs.declared.Access.{Access}
-use Rattle.packet.specs.declared.Function.{Function}
 use Rattle.packet.specs.declared.PacketRefusal.{PacketRefusal}
 use Rattle.packet.specs.declared.Reply.{Reply}
-use Rattle.packet.specs.Layout.{Content, packet, request_content, request_packet, reply_content, reply_function, reply_packet}
-use Rattle.packet.specs.Reading.{content_of, access_of, answer_of, then, request_of, reply_of, RequestStands, ReplyStands}
+use Rattle.packet.specs.Layout.{Content, packet, request_content, reply_content, reply_function}
+use Rattle.packet.specs.Reading.{content_of, access_of, answer_of, then, RequestStands, ReplyStands}
 use Rattle.packet.proofs.Contents.{content_reads, content_only, content_bytes}
 use Rattle.packet.proofs.Meanings.{access_reads, access_only, answer_reads, answer_only}
 

@@ -1,6 +1,6 @@
 -- How a byte string is read as a request or as the reply to a request: the tests in their order, the first failing one
 -- giving the refusal, and the value of a string that passes them all.
-use Rattle.std.specs.Prelude.{◌≡◌, ℕ, ◌+◌, ◌-◌, ◌*◌, ◌<◌, ◌≤◌, Bool, true, false, cond, List, [], ◌∷◌, ◌++◌, length, take, drop, Some, None, Ok, Err, Option, Result, ◌==◌, nat_le, slice_index}
+use Rattle.std.specs.Prelude.{◌≡◌, ℕ, ◌+◌, ◌-◌, Bool, true, cond, List, [], ◌∷◌, length, take, drop, Ok, Err, Result, ◌==◌, nat_le, slice_index}
 use Rattle.checks.specs.Tests.{both, judged}
 use Rattle.crc.specs.Crc.{crc_of, Bytes}
 use Rattle.packet.specs.declared.Access.{Access}

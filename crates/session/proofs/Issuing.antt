@@ -1,12 +1,11 @@
 -- A command that passed its tests: beginning it and collecting it test nothing that could fail any more.
-use Rattle.std.proofs.Common.{◌≡◌, ℕ, Bool, true, false, cond, eqb, List, [], ◌∷◌, length, Some, None, Ok, Err, Option, Result, sym, refl, ap, ◌∙◌, ap₂, arith, eqb-true}
+use Rattle.std.proofs.Common.{◌≡◌, ℕ, true, eqb, List, [], ◌∷◌, length, None, Ok, Err, Result, sym, refl, ap, ◌∙◌, ap₂, arith}
 use Rattle.checks.specs.Tests.{first_failing, judged}
 use Rattle.checks.proofs.Passing.{all_pass, judged_back, none_fails}
 use Rattle.camera.specs.declared.attribute.Kind.{Kind}
 use Rattle.camera.specs.declared.attribute.Kind.TheVariants.{Get, Set, Run}
 use Rattle.camera.specs.declared.command.Command.{Command}
 use Rattle.camera.specs.declared.fault.Fault.{Fault}
-use Rattle.camera.specs.Attributes.{offers, size_of}
 use Rattle.camera.specs.Execution.{moved}
 use Rattle.camera.specs.State.{CameraState}
 use Rattle.camera.specs.Steps.{Outcome, ended}
@@ -15,7 +14,7 @@ use Rattle.calls.specs.declared.refusal.Refusal.TheVariants.{Bus}
 use Rattle.calls.specs.declared.stage.Stage.TheVariants.{Waiting}
 use Rattle.calls.specs.Accesses.{camera}
 use Rattle.calls.specs.Beginning.{words_sent, begin_checks, sent_off, begun}
-use Rattle.calls.specs.Calls.{Session, asleep, ready, parked, Served, served, checks, command_checks, has_room, is_budget, resume}
+use Rattle.calls.specs.Calls.{ready, parked, Served, served, checks, command_checks, has_room, resume}
 use Rattle.calls.specs.Outcomes.{by_answer, collected, issued, outcome}
 use Rattle.session.specs.Views.{brought, SendsNoOther, command_outcome}
 

@@ -1,5 +1,5 @@
 -- The code's sessions and tokens as the definitions have them.
-use Rattle.std.specs.Prelude.{◌≡◌, ℕ, true, List, [], Some, None, Ok, Err, Option, Result}
+use Rattle.std.specs.Prelude.{◌≡◌, ℕ, List, [], Some, None, Ok, Err, Result}
 use Rattle.checks.specs.Tests.{first_failing}
 use Rattle.camera.specs.declared.attribute.Kind.{Kind}
 use Rattle.camera.specs.declared.attribute.Kind.TheVariants.{Get, Set, Run}

@@ -1,6 +1,6 @@
-use Rattle.std.proofs.Common.{◌≡◌, ◌+◌, length, get_or, drop, sym, ap, ◌∙◌, arith}
+use Rattle.std.proofs.Common.{◌≡◌, ◌+◌, drop, sym, ap, ◌∙◌, arith}
 use Rattle.std.proofs.lemmas.List.{at_drop_more, at_drop_all}
-use Rattle.crc.specs.Crc.{crc_from, crc_of, crc_bytes, feed}
+use Rattle.crc.specs.Crc.{crc_from, crc_of, crc_bytes}
 use Rattle.crc.proofs.Sealed.{crc_append, crc_sealed}
 use Rattle.crc.proofs.checksum.Goals as goal
 

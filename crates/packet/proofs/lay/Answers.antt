@@ -1,4 +1,4 @@
-use Rattle.std.proofs.Common.{◌≡◌, ◌+◌, ◌-◌, ◌++◌, length, take, drop, sym, refl, ap, ◌∙◌, ap₂}
+use Rattle.std.proofs.Common.{◌++◌, length, take, drop, ap, ◌∙◌, ap₂}
 use native.Mathlib.Nat.{add-sub_cancel_left}
 use Rattle.std.proofs.lemmas.List.{drop-drop}
 use Rattle.packet.proofs.lay.Goals as goal

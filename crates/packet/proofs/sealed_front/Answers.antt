@@ -1,4 +1,4 @@
-use Rattle.std.proofs.Common.{◌≡◌, ℕ, List, [], ◌∷◌, get_or, sym, refl, ap, ◌∙◌, ap₂}
+use Rattle.std.proofs.Common.{◌≡◌, ℕ, List, [], ◌∷◌, get_or, ap, ◌∙◌, ap₂}
 use Rattle.crc.specs.Crc.{crc_of, crc_bytes}
 use Rattle.packet.specs.Layout.{be_bytes, front_bytes, process_code, with_checksum}
 use Rattle.packet.proofs.sealed_front.Goals as goal

@@ -1,7 +1,6 @@
 use Rattle.std.proofs.Common.{◌≡◌, ◌+◌, ◌-◌, ◌<◌, sym, ap, ◌∙◌, arith}
 use native.Mathlib.Nat.{sub-zero}
 use Rattle.std.proofs.lemmas.Result.{err_from_is_err_and}
-use Rattle.camera.specs.Steps.{ended}
 use Rattle.calls.specs.Accesses.{camera}
 use Rattle.calls.specs.Outcomes.{polled}
 use Rattle.driver.specs.Driving.{passes}

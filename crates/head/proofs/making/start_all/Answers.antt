@@ -1,5 +1,5 @@
 use Rattle.std.proofs.Common.{arith}
-use Rattle.head.proofs.Starting.{Begun, begun_more}
+use Rattle.head.proofs.Starting.{begun_more}
 use Rattle.head.proofs.making.start_all.Goals as goal
 
 pub loop-number-init : goal.loop-number-init

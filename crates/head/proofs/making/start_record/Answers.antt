@@ -1,4 +1,4 @@
-use Rattle.std.proofs.Common.{◌≡◌, ap, ◌∙◌}
+use Rattle.std.proofs.Common.{ap, ◌∙◌}
 use Rattle.camera.specs.Registers.{over}
 use Rattle.head.proofs.Starting.{start_none, start_some}
 use Rattle.head.proofs.making.start_record.Goals as goal

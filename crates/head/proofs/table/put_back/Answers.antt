@@ -1,5 +1,5 @@
-use Rattle.std.proofs.Common.{◌≡◌, ◌+◌, ◌<◌, ◌≤◌, sym, refl, ◌∙◌, subst, arith}
-use Rattle.head.proofs.Tables.{Turn, merged_words, turn_other, turn_saved}
+use Rattle.std.proofs.Common.{sym, refl, arith}
+use Rattle.head.proofs.Tables.{merged_words, turn_other, turn_saved}
 use Rattle.head.proofs.table.put_back.Goals as goal
 use Rattle.head.proofs.table.put_back.Goals.{then-is_saved, else-is_saved}
 

@@ -1,6 +1,6 @@
-use Rattle.std.proofs.Common.{◌≡◌, ℕ, ◌≤◌, length, take, Ok, Err, Result, sym, ap, ◌∙◌, ap₂, arith}
+use Rattle.std.proofs.Common.{◌≡◌, ℕ, length, take, Ok, Err, Result, ◌∙◌, ap₂, arith}
 use Rattle.packet.specs.declared.PacketRefusal.{PacketRefusal}
-use Rattle.packet.specs.Layout.{request_packet, room, written}
+use Rattle.packet.specs.Layout.{request_packet}
 use Rattle.link.proofs.Sizes.{front_back, laid_there, request_fits, written_there}
 use Rattle.link.proofs.packet_link.write_request.Goals as goal
 

@@ -1,5 +1,4 @@
-use Rattle.std.proofs.Common.{Option, ap, ◌∙◌}
-use Rattle.camera.specs.declared.attribute.Attribute.{Attribute}
+use Rattle.std.proofs.Common.{◌∙◌}
 use Rattle.camera.specs.Attributes.{attribute_at, attributes}
 use Rattle.camera.proofs.Lists.{item_nth}
 use Rattle.camera.proofs.attribute.Attribute.of.Goals as goal

@@ -1,4 +1,4 @@
-use Rattle.std.proofs.Common.{◌≡◌, [], ◌∷◌, ap, ◌∙◌, ap₂, arith}
+use Rattle.std.proofs.Common.{[], ◌∷◌, ap, ◌∙◌, ap₂, arith}
 use Rattle.camera.specs.Registers.{over}
 use Rattle.head.proofs.Starting.{new_table}
 use Rattle.head.proofs.inner.Table.start.Goals as goal

@@ -1,5 +1,5 @@
-use Rattle.std.proofs.Common.{◌≡◌, ◌<◌, length, sym, ap, ◌∙◌, arith}
-use Rattle.camera.specs.Execution.{by_data, bank, standing, with_one}
+use Rattle.std.proofs.Common.{◌≡◌, ◌<◌, length, ap, ◌∙◌, arith}
+use Rattle.camera.specs.Execution.{by_data, bank, with_one}
 use Rattle.camera.specs.State.{CameraState, Words, with_interpreter, with_words}
 use Rattle.head.specs.Meaning.{head_state, registers_in, words_in}
 use Rattle.head.proofs.Tables.{one_record, no_record}

@@ -1,6 +1,6 @@
-use Rattle.std.proofs.Common.{◌≡◌, ◌<◌, [], ◌∷◌, length, refl, ap, arith}
+use Rattle.std.proofs.Common.{◌<◌, [], ◌∷◌, length, refl, ap, arith}
 use Rattle.camera.specs.Attributes.{attribute_at}
-use Rattle.camera.specs.State.{CameraState, Words, with_interpreter, with_words}
+use Rattle.camera.specs.State.{with_interpreter, with_words}
 use Rattle.head.specs.Meaning.{head_state}
 use Rattle.head.proofs.Tables.{one_record}
 use Rattle.head.proofs.memory.Head.set_mean.Goals as goal

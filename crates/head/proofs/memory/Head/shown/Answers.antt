@@ -1,4 +1,4 @@
-use Rattle.std.proofs.Common.{◌≡◌, false, eqb, List, take, sym, ap, ◌∙◌, arith}
+use Rattle.std.proofs.Common.{◌≡◌, false, eqb, take, ap, ◌∙◌, arith}
 use Rattle.camera.specs.Attributes.{size_of}
 use Rattle.head.specs.Meaning.{head_state, words_in}
 use Rattle.head.proofs.Showing.{status_shown, defaults_shown, other_shown}

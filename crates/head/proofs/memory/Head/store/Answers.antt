@@ -1,4 +1,4 @@
-use Rattle.std.proofs.Common.{◌≡◌, sym, ap, ◌∙◌, arith}
+use Rattle.std.proofs.Common.{sym, ap, ◌∙◌, arith}
 use Rattle.camera.specs.Execution.{commanded}
 use Rattle.camera.specs.Steps.{stored}
 use Rattle.head.specs.Meaning.{head_state}

@@ -1,12 +1,12 @@
 -- The request stands at the front of its buffer, so the far end carries out the access, and its reply comes back.
-use Rattle.std.proofs.Common.{◌≡◌, ℕ, ◌-◌, ◌≤◌, List, length, take, Ok, Err, Result, sym, ap, ◌∙◌, ap₂, arith}
+use Rattle.std.proofs.Common.{◌≡◌, ℕ, ◌-◌, ◌≤◌, List, length, take, Ok, Err, Result, ap, ◌∙◌, ap₂, arith}
 use native.Mathlib.Nat.{sub-zero}
 use Rattle.camera.specs.State.{CameraState}
 use Rattle.camera.specs.Steps.{Outcome, ended}
 use Rattle.packet.specs.declared.Access.{Access}
 use Rattle.packet.specs.declared.PacketRefusal.{PacketRefusal}
 use Rattle.packet.specs.declared.Reply.{Reply}
-use Rattle.packet.specs.Layout.{over, reply_packet, request_packet, room}
+use Rattle.packet.specs.Layout.{reply_packet, request_packet, room}
 use Rattle.link.specs.Line.{carried, function_of, reply_for}
 use Rattle.link.specs.Ends.{FarEnd, answered, far_end, reply_to, served}
 use Rattle.link.proofs.Crossing.{accesses_cross}

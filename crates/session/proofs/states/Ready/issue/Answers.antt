@@ -1,4 +1,4 @@
-use Rattle.std.proofs.Common.{◌≡◌, sym, ap, ◌∙◌}
+use Rattle.std.proofs.Common.{sym, ap, ◌∙◌}
 use Rattle.calls.specs.declared.stage.Stage.TheVariants.{Waiting}
 use Rattle.calls.specs.Accesses.{camera}
 use Rattle.calls.specs.Calls.{parked, resume}
