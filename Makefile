@@ -1,13 +1,15 @@
 # `make run` builds the bench, proving what it is made of, and lets a head under a packet link take a frame and answer its mean; `make test` is the gate.
-SOURCES := crates.txt $(shell find crates -name '*.rt' -o -name '*.antt')
+BENCH := crates/bench/out/bench
+SOURCES := crates.txt $(shell find crates -path '*/out' -prune -o \( -name '*.rt' -o -name '*.antt' \) -print)
 
-run: target/bin/bench
-	target/bin/bench < examples/head.bench
+run: $(BENCH)
+	$(BENCH) < examples/linked.bench
 
 test:
 	.ci/run
 
-target/bin/bench: $(SOURCES)
-	rt check bench
+# a run on no input, which leaves the program that it built
+$(BENCH): $(SOURCES)
+	cd crates/bench && rt run < /dev/null
 
 .PHONY: run test
