@@ -2,3 +2,4 @@ pub mod Words
 pub mod Code
 pub mod Order
 pub mod Numbers
+pub mod Codecs

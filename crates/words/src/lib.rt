@@ -1,15 +1,16 @@
 // Values as lists of sixteen-bit words, the order of values, and the response code in a status word.
 #![tactic(auto)]
 
-ghost use Rattle.std.specs.Prelude.{◌≡◌, ℕ, ◌+◌, ◌*◌, ◌/◌, ◌^◌, ◌<◌, Bool, true, ◌⊎◌, List, length, IfOk, FitsSigned, int_le, nat_le};
+ghost use Rattle.std.specs.Prelude.{◌≡◌, ℕ, ◌+◌, ◌*◌, ◌/◌, ◌^◌, ◌<◌, ◌≤◌, Bool, true, ◌⊎◌, List, length, IfOk, FitsSigned, int_le, nat_le};
 ghost use Rattle.words.specs.Code.{byte_of, code_of};
-ghost use Rattle.words.specs.Order.{between};
-ghost use Rattle.words.specs.Words.{RegionFits, Words, filled, number_words, refusal_number, region_words, signed_words, sized, words_number, words_region, words_signed};
-ghost use Rattle.std.proofs.Common.{ap, ◌∙◌, rules, arith};
+ghost use Rattle.words.specs.Order.{IsOrder, between, int_le_order, nat_le_order};
+ghost use Rattle.words.specs.Words.{RegionFits, Words, filled, number_words, refusal_number, region_words, signed_words, sized, word_size, words_number, words_region, words_signed};
+ghost use Rattle.std.proofs.Common.{rules};
 ghost use Rattle.std.specs.Int.{w32};
-ghost use Rattle.words.specs.Numbers as numbers;
-ghost use Rattle.std.proofs.lemmas.Int.{of_z-to_z};
-ghost use Rattle.std.proofs.lemmas.List.{places, same_lists};
+ghost use Rattle.std.specs.Ordering.{partial_le};
+ghost use Rattle.words.specs.Codecs.{IsCodec, number_words_codec, region_words_codec, signed_words_codec};
+
+use std::array::from_fn;
 
 // How many words a single has.
 const SINGLE_WORDS: usize = 1;
@@ -24,7 +25,7 @@ const QUAD_WORDS: usize = 4;
 const REGION_WORDS: usize = 4;
 
 // The refusal of a slice that has not as many words as a value.
-#[derive(Clone, Copy)]
+#[derive(Clone, Copy, Debug, PartialEq, Eq)]
 pub struct WrongSize;
 
 impl WrongSize {
@@ -46,6 +47,31 @@ fn fill(slice: &mut [u16], words: &[u16]) -> Result<(), WrongSize>
     }
     slice.copy_from_slice(words);
     Ok(())
+}
+
+// The lowest words of a number, the lowest first.
+fn low_words<const N: usize>(number: u64) -> [u16; N]
+    requires { N ≤ 4 }
+    ensures value { result ≡ number_words N number }
+{
+    from_fn(|place| (number >> (16 * place) & 0xffff) as u16)
+}
+
+// The number of so many words, of which the first is the lowest. A slice of another size is refused.
+fn number_of<const N: usize>(words: &[u16]) -> Result<u64, WrongSize>
+    requires { N ≤ 4 }
+    ensures answer { result ≡ sized N words.now (words_number N words.now) }
+    ensures bound { IfOk result (λ number. number < word_size ^ N) }
+{
+    if words.len() != N {
+        return Err(WrongSize);
+    }
+    Ok(
+        words
+            .iter()
+            .rev()
+            .fold(0, |high, word| high << 16 | u64::from(*word)),
+    )
 }
 
 // A word codec: a kind of value that is kept as a fixed number of sixteen-bit words, the low word first.
@@ -77,17 +103,8 @@ pub trait WordCodec: Copy {
         ensures answer { result ≡ sized count words.now (decoded words.now) }
         ensures fitting { IfOk result fits };
 
-    // a value has that many words, each of sixteen bits
-    ghost size: { (v : Self) → fits v → Words count (encoded v) };
-
-    // what was put is taken back
-    ghost back: { (v : Self) → fits v → decoded (encoded v) ≡ v };
-
-    // the words that are taken are those that the value puts: no value has two spellings
-    ghost same: { (ws : List ℕ) → Words count ws → encoded (decoded ws) ≡ ws };
-
-    // what is taken is a value of the type
-    ghost taken: { (ws : List ℕ) → Words count ws → fits (decoded ws) };
+    // a value has that many words, what was put is taken back, and no value has two spellings
+    ghost codec: { IsCodec count fits encoded decoded };
 }
 
 // A single: a number of one word.
@@ -100,27 +117,18 @@ impl WordCodec for u16 {
 
     ghost decoded = { words_number 1 };
 
-    ghost size = { λ v h. numbers.size 1 v };
-
-    ghost back = { numbers.back 1 };
-
-    ghost same = { numbers.same 1 };
-
-    ghost taken = { numbers.fits 1 };
+    ghost codec = { number_words_codec 1 };
 
     fn word_count() -> usize {
         SINGLE_WORDS
     }
 
     fn put(self, words: &mut [u16]) -> Result<(), WrongSize> {
-        fill(words, &[self])
+        fill(words, &low_words::<SINGLE_WORDS>(u64::from(self)))
     }
 
     fn take(words: &[u16]) -> Result<u16, WrongSize> {
-        let [word] = words else {
-            return Err(WrongSize);
-        };
-        Ok(*word)
+        Ok(number_of::<SINGLE_WORDS>(words)? as u16)
     }
 }
 
@@ -134,27 +142,18 @@ impl WordCodec for u32 {
 
     ghost decoded = { words_number 2 };
 
-    ghost size = { λ v h. numbers.size 2 v };
-
-    ghost back = { numbers.back 2 };
-
-    ghost same = { numbers.same 2 };
-
-    ghost taken = { numbers.fits 2 };
+    ghost codec = { number_words_codec 2 };
 
     fn word_count() -> usize {
         PAIR_WORDS
     }
 
     fn put(self, words: &mut [u16]) -> Result<(), WrongSize> {
-        fill(words, &[(self % 65536) as u16, (self / 65536) as u16])
+        fill(words, &low_words::<PAIR_WORDS>(u64::from(self)))
     }
 
     fn take(words: &[u16]) -> Result<u32, WrongSize> {
-        let [low, high] = words else {
-            return Err(WrongSize);
-        };
-        Ok(u32::from(*low) + 65536 * u32::from(*high))
+        Ok(number_of::<PAIR_WORDS>(words)? as u32)
     }
 }
 
@@ -168,13 +167,7 @@ impl WordCodec for i32 {
 
     ghost decoded = { words_signed };
 
-    ghost size = { Prim.search rules };
-
-    ghost back = { Prim.search rules };
-
-    ghost same = { λ ws h. ap (number_words 2) (of_z-to_z w32 (words_number 2 ws) (numbers.fits 2 ws h)) ∙ numbers.same 2 ws h };
-
-    ghost taken = { Prim.search rules };
+    ghost codec = { signed_words_codec };
 
     fn word_count() -> usize {
         u32::word_count()
@@ -185,8 +178,7 @@ impl WordCodec for i32 {
     }
 
     fn take(words: &[u16]) -> Result<i32, WrongSize> {
-        let number = u32::take(words)?;
-        Ok(number.cast_signed())
+        Ok(u32::take(words)?.cast_signed())
     }
 }
 
@@ -200,37 +192,23 @@ impl WordCodec for u64 {
 
     ghost decoded = { words_number 4 };
 
-    ghost size = { λ v h. numbers.size 4 v };
-
-    ghost back = { numbers.back 4 };
-
-    ghost same = { numbers.same 4 };
-
-    ghost taken = { numbers.fits 4 };
+    ghost codec = { number_words_codec 4 };
 
     fn word_count() -> usize {
         QUAD_WORDS
     }
 
     fn put(self, words: &mut [u16]) -> Result<(), WrongSize> {
-        let first = (self % 65536) as u16;
-        let second = (self / 65536 % 65536) as u16;
-        let third = (self / 65536 / 65536 % 65536) as u16;
-        let fourth = (self / 65536 / 65536 / 65536) as u16;
-        fill(words, &[first, second, third, fourth])
+        fill(words, &low_words::<QUAD_WORDS>(self))
     }
 
     fn take(words: &[u16]) -> Result<u64, WrongSize> {
-        let [first, second, third, fourth] = words else {
-            return Err(WrongSize);
-        };
-        let high = u64::from(*third) + 65536 * u64::from(*fourth);
-        Ok(u64::from(*first) + 65536 * (u64::from(*second) + 65536 * high))
+        number_of::<QUAD_WORDS>(words)
     }
 }
 
 // A region of the sensor, by its first and its last column and row. Any four words are one.
-#[derive(Clone, Copy)]
+#[derive(Clone, Copy, Debug, PartialEq, Eq)]
 pub struct Region {
     pub start_column: u16,
     pub start_row: u16,
@@ -248,13 +226,7 @@ impl WordCodec for Region {
 
     ghost decoded = { words_region };
 
-    ghost size = { Prim.search rules };
-
-    ghost back = { Prim.search rules };
-
-    ghost same = { λ ws h. same_lists (region_words (words_region ws)) ws (omega (arith, h.0)) (λ k d l. Prim.grind (arith, places)) };
-
-    ghost taken = { Prim.search rules };
+    ghost codec = { region_words_codec };
 
     fn word_count() -> usize {
         REGION_WORDS
@@ -273,106 +245,71 @@ impl WordCodec for Region {
     }
 
     fn take(words: &[u16]) -> Result<Region, WrongSize> {
-        let [start_column, start_row, end_column, end_row] = words else {
+        let &[start_column, start_row, end_column, end_row] = words else {
             return Err(WrongSize);
         };
         Ok(Region {
-            start_column: *start_column,
-            start_row: *start_row,
-            end_column: *end_column,
-            end_row: *end_row,
+            start_column,
+            start_row,
+            end_column,
+            end_row,
         })
     }
 }
 
 // A total order of values: any two can be compared.
-pub trait TotalOrder {
+pub trait TotalOrder: PartialOrd {
     // whether a value is below another or the same
     ghost leq: { Self → Self → Bool };
 
     // Whether the value is below another or the same.
     fn at_most(&self, other: &Self) -> bool
-        ensures answer { result ≡ leq self.now other.now };
+        ensures answer { result ≡ leq self.now other.now }
+    {
+        *self <= *other
+    }
 
-    // a value is the same as itself
-    ghost reflexive: { (a : Self) → leq a a ≡ true };
+    // it is the order by which the type's values are compared
+    ghost compared: { (a b : Self) → partial_le Self.partial_cmp a b ≡ leq a b };
 
-    // two values, each below the other or the same, are the same
-    ghost antisymmetric: { (a b : Self) → leq a b ≡ true → leq b a ≡ true → a ≡ b };
-
-    // what is at most a value is at most all that the value is at most
-    ghost transitive: { (a b c : Self) → leq a b ≡ true → leq b c ≡ true → leq a c ≡ true };
-
-    // of two values one is below the other or the same
-    ghost total: { (a b : Self) → (leq a b ≡ true) ⊎ (leq b a ≡ true) };
+    // it is reflexive, antisymmetric, transitive and total
+    ghost order: { IsOrder leq };
 }
 
 // The order of numbers.
 impl TotalOrder for u16 {
     ghost leq = { nat_le };
 
-    ghost reflexive = { Prim.search rules };
+    ghost compared = { Prim.search rules };
 
-    ghost antisymmetric = { Prim.search rules };
-
-    ghost transitive = { Prim.search rules };
-
-    ghost total = { Prim.search rules };
-
-    fn at_most(&self, other: &u16) -> bool {
-        *self <= *other
-    }
+    ghost order = { nat_le_order };
 }
 
 // The order of numbers.
 impl TotalOrder for u32 {
     ghost leq = { nat_le };
 
-    ghost reflexive = { Prim.search rules };
+    ghost compared = { Prim.search rules };
 
-    ghost antisymmetric = { Prim.search rules };
-
-    ghost transitive = { Prim.search rules };
-
-    ghost total = { Prim.search rules };
-
-    fn at_most(&self, other: &u32) -> bool {
-        *self <= *other
-    }
+    ghost order = { nat_le_order };
 }
 
 // The order of signed numbers: those below zero come first.
 impl TotalOrder for i32 {
     ghost leq = { int_le };
 
-    ghost reflexive = { Prim.search rules };
+    ghost compared = { Prim.search rules };
 
-    ghost antisymmetric = { Prim.search rules };
-
-    ghost transitive = { Prim.search rules };
-
-    ghost total = { Prim.search rules };
-
-    fn at_most(&self, other: &i32) -> bool {
-        *self <= *other
-    }
+    ghost order = { int_le_order };
 }
 
 // The order of numbers.
 impl TotalOrder for u64 {
     ghost leq = { nat_le };
 
-    ghost reflexive = { Prim.search rules };
+    ghost compared = { Prim.search rules };
 
-    ghost antisymmetric = { Prim.search rules };
-
-    ghost transitive = { Prim.search rules };
-
-    ghost total = { Prim.search rules };
-
-    fn at_most(&self, other: &u64) -> bool {
-        *self <= *other
-    }
+    ghost order = { nat_le_order };
 }
 
 // Whether a value is in a range. Both ends are in it.
@@ -387,7 +324,8 @@ pub fn response_code(status: u16) -> i8
     ensures value { result ≡ code_of status }
     ensures back { byte_of result ≡ status / 256 }
 {
-    ((status / 256) as u8).cast_signed()
+    let [high, _] = status.to_be_bytes();
+    high.cast_signed()
 }
 
 // The byte of a response code. A status word with this high byte, whatever its low byte, has the code again.
