@@ -43,7 +43,7 @@ fn add_byte(register: u16, byte: u8) -> u16
     ensures value { result ≡ feed 8 register byte }
 {
     let top = (register >> 8) as u8 ^ byte;
-    (register & 0xff) << 8 ^ entry(top)
+    register << 8 ^ entry(top)
 }
 
 // The checksum of a byte string. With its two bytes behind them, high byte first, the bytes have checksum 0.
@@ -51,9 +51,7 @@ pub fn checksum(bytes: &[u8]) -> u16
     ensures value { result ≡ crc_of bytes.now }
     ensures sealed { crc_of (bytes.now ++ crc_bytes result) ≡ 0 }
 {
-    let mut register = 0;
-    for byte in bytes {
-        register = add_byte(register, *byte);
-    }
-    register
+    bytes
+        .iter()
+        .fold(0, |register, byte| add_byte(register, *byte))
 }

@@ -2,13 +2,13 @@
 #![tactic(auto)]
 
 ghost use Rattle.std.specs.Prelude.{◌≡◌, ℕ, ◌+◌, ◌*◌, ◌/◌, ◌^◌, ◌<◌, ◌≤◌, Bool, true, ◌⊎◌, List, length, IfOk, FitsSigned, int_le, nat_le};
-ghost use Rattle.words.specs.Code.{byte_of, code_of};
-ghost use Rattle.words.specs.Order.{IsOrder, between, int_le_order, nat_le_order};
-ghost use Rattle.words.specs.Words.{RegionFits, Words, filled, number_words, refusal_number, region_words, signed_words, sized, word_size, words_number, words_region, words_signed};
-ghost use Rattle.std.proofs.Common.{rules};
 ghost use Rattle.std.specs.Int.{w32};
 ghost use Rattle.std.specs.Ordering.{partial_le};
+ghost use Rattle.std.proofs.Common.{rules};
+ghost use Rattle.words.specs.Code.{byte_of, code_of};
 ghost use Rattle.words.specs.Codecs.{IsCodec, number_words_codec, region_words_codec, signed_words_codec};
+ghost use Rattle.words.specs.Order.{IsOrder, between, int_le_order, nat_le_order};
+ghost use Rattle.words.specs.Words.{RegionFits, filled, number_words, refusal_number, region_words, signed_words, sized, word_size, words_number, words_region, words_signed};
 
 use std::array::from_fn;
 
@@ -49,7 +49,7 @@ fn fill(slice: &mut [u16], words: &[u16]) -> Result<(), WrongSize>
     Ok(())
 }
 
-// The lowest words of a number, the lowest first.
+// The lowest words of a number, the lowest first. A number has four.
 fn low_words<const N: usize>(number: u64) -> [u16; N]
     requires { N ≤ 4 }
     ensures value { result ≡ number_words N number }
@@ -57,7 +57,7 @@ fn low_words<const N: usize>(number: u64) -> [u16; N]
     from_fn(|place| (number >> (16 * place) & 0xffff) as u16)
 }
 
-// The number of so many words, of which the first is the lowest. A slice of another size is refused.
+// The number of so many words, four at most, the lowest first. A slice of another size is refused.
 fn number_of<const N: usize>(words: &[u16]) -> Result<u64, WrongSize>
     requires { N ≤ 4 }
     ensures answer { result ≡ sized N words.now (words_number N words.now) }
@@ -103,7 +103,7 @@ pub trait WordCodec: Copy {
         ensures answer { result ≡ sized count words.now (decoded words.now) }
         ensures fitting { IfOk result fits };
 
-    // a value has that many words, what was put is taken back, and no value has two spellings
+    // a value has that many words, what was put is taken back, and no value has two spellings (specs/Codecs.antt)
     ghost codec: { IsCodec count fits encoded decoded };
 }
 
@@ -269,10 +269,10 @@ pub trait TotalOrder: PartialOrd {
         *self <= *other
     }
 
-    // it is the order by which the type's values are compared
+    // it is the order that `<=` goes by
     ghost compared: { (a b : Self) → partial_le Self.partial_cmp a b ≡ leq a b };
 
-    // it is reflexive, antisymmetric, transitive and total
+    // it is reflexive, antisymmetric, transitive and total (specs/Order.antt)
     ghost order: { IsOrder leq };
 }
 

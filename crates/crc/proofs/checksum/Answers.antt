@@ -1,26 +1,20 @@
-use Rattle.std.proofs.Common.{◌≡◌, ◌+◌, drop, sym, ap, ◌∙◌, arith}
-use Rattle.std.proofs.lemmas.List.{at_drop_more, at_drop_all}
-use Rattle.crc.specs.Crc.{crc_from, crc_of, crc_bytes}
+use Rattle.std.proofs.Common.{◌≡◌, ℕ, List, [], ◌∷◌, rules, sym, refl, ap, ◌∙◌}
+use Rattle.std.specs.List.{fold}
+use Rattle.crc.specs.Crc.{crc_from, crc_of, crc_bytes, feed}
 use Rattle.crc.proofs.Sealed.{crc_append, crc_sealed}
 use Rattle.crc.proofs.checksum.Goals as goal
 
-pub loop-byte-preserved : goal.loop-byte-preserved
+fold-feed : (bytes : List ℕ) (register : ℕ) → fold (feed 8) register bytes ≡ crc_from register bytes
 unfolding crc_from
-loop-byte-preserved c = (
-  ap (λ x. crc_from x (drop (c.loop-byte.byte-index + 1) c.args.bytes.now)) c.add_byte-register.ensures.value
-      ∙ sym (at_drop_more (crc_from c.loop-byte.register) c.args.bytes.now c.loop-byte.byte-index 0 (omega arith))
-      ∙ c.loop-byte.invariant.0,
-  c.add_byte-register.type_inv,
-)
+fold-feed [] register = refl
+fold-feed (byte ∷ bytes) register = fold-feed bytes (feed 8 register byte)
 
 pub returns : goal.returns
-unfolding crc_from
 returns c =
-    let done = at_drop_all (crc_from c.loop-byte.register) c.args.bytes.now c.loop-byte.byte-index (omega arith) in
-    let value : c.loop-byte.register ≡ crc_of c.args.bytes.now = sym done ∙ c.loop-byte.invariant.0 in
+    let run : c.fold.result ≡ fold (feed 8) 0 c.args.bytes.now = search rules in
+    let value : c.fold.result ≡ crc_of c.args.bytes.now = run ∙ fold-feed c.args.bytes.now 0 in
     record {
       value = value;
-      sealed = crc_append c.args.bytes.now (crc_bytes c.loop-byte.register) 0
-          ∙ ap (λ x. crc_from x (crc_bytes c.loop-byte.register)) (sym value)
-          ∙ crc_sealed c.loop-byte.register c.loop-byte.invariant.1;
+      sealed = crc_append c.args.bytes.now (crc_bytes c.fold.result) 0 ∙ ap (λ x. crc_from x (crc_bytes c.fold.result)) (sym value)
+          ∙ crc_sealed c.fold.result c.fold.type_inv;
     }

@@ -10,14 +10,14 @@ use Rattle.words.specs.Numbers.{length-number_words}
 use Rattle.words.proofs.low_words.Goals as goal
 
 -- What calls made, of which each gives the value of a function at its index.
-made : {F : Type 0} (g : Mut F (ℕ × Unit {0}) ℕ) (f : F) (h : ℕ → ℕ) → ((i y : ℕ) (q : F) → Called g f (i, tt) y q → (q ≡ f) × (y ≡ h i))
+made : {F : Type 0} {g : Mut F (ℕ × Unit {0}) ℕ} {f : F} (h : ℕ → ℕ) → ((i y : ℕ) (q : F) → Called g f (i, tt) y q → (q ≡ f) × (y ≡ h i))
     → (ys : List ℕ) (i n : ℕ) → IsFromFnResultFrom g f ys i n → (j k : ℕ) → i + j ≡ k → j < n → slice_index ys k ≡ h k
-made g f h call ys i zero e j k at below = absurd (omega arith)
-made g f h call ys i (suc n) (q, y, here, called, rest) zero k at below =
+made h call ys i zero e j k at below = absurd (omega arith)
+made h call ys i (suc n) (q, y, here, called, rest) zero k at below =
     let same : i ≡ k = omega arith in
     subst (λ x. slice_index ys x ≡ h x) same (here.1 0 ∙ (call i y q called).1)
-made g f h call ys i (suc n) (q, y, here, called, rest) (suc j) k at below =
-    made g f h call ys (i + 1) n (subst (λ s. IsFromFnResultFrom g s ys (i + 1) n) (call i y q called).0 rest) j k (omega arith) (omega arith)
+made {g = g} h call ys i (suc n) (q, y, here, called, rest) (suc j) k at below =
+    made h call ys (i + 1) n (subst (λ s. IsFromFnResultFrom g s ys (i + 1) n) (call i y q called).0 rest) j k (omega arith) (omega arith)
 
 -- A word of a number is what is left of the number's shift to the right.
 number_words_at : (n v k : ℕ) → k < n → slice_index (number_words n v) k ≡ bit_and (v / 2 ^ (16 * k)) 0xffff
@@ -34,6 +34,6 @@ returns g c =
     record {
       value = same_number_lists c.from_fn.result (number_words g.row.N c.args.number)
           (c.from_fn.ensures.items.long ∙ sym (length-number_words g.row.N c.args.number))
-          (λ k h. made _ _ word (λ i y q e. search rules) _ 0 g.row.N c.from_fn.ensures.items.each k k (omega arith) (omega (arith, c.from_fn.ensures.items.long))
+          (λ k h. made word (λ i y q e. search rules) _ 0 g.row.N c.from_fn.ensures.items.each k k (omega arith) (omega (arith, c.from_fn.ensures.items.long))
           ∙ sym (number_words_at g.row.N c.args.number k (omega (arith, c.from_fn.ensures.items.long))));
     }
