@@ -1,7 +1,7 @@
 // Values as lists of sixteen-bit words, the order of values, and the response code in a status word.
 #![tactic(auto)]
 
-ghost use Rattle.std.specs.Prelude.{◌≡◌, ℕ, ◌+◌, ◌*◌, ◌/◌, ◌^◌, ◌<◌, ◌≤◌, Bool, true, ◌⊎◌, List, length, IfOk, FitsSigned, int_le, nat_le};
+ghost use Rattle.std.specs.Prelude.{◌≡◌, ℕ, ◌+◌, ◌*◌, ◌/◌, ◌^◌, ◌<◌, ◌≤◌, Bool, List, length, IfOk, FitsSigned, int_le, nat_le};
 ghost use Rattle.std.specs.Int.{w32};
 ghost use Rattle.std.specs.Ordering.{partial_le};
 ghost use Rattle.std.proofs.Common.{rules};
