@@ -274,19 +274,19 @@ const ATTRIBUTES: [Attribute; 20] = [
 ];
 
 // The numbers of attributes that have rules of their own.
-pub const STATUS: u16 = 1;
+pub const STATUS: u16 = Name::Status as u16;
 
-pub const SERIAL_NUMBER: u16 = 2;
+pub const SERIAL_NUMBER: u16 = Name::SerialNumber as u16;
 
-pub const FPA_TEMPERATURE: u16 = 3;
+pub const FPA_TEMPERATURE: u16 = Name::FpaTemperature as u16;
 
-pub const COLOUR_TABLE: u16 = 9;
+pub const COLOUR_TABLE: u16 = Name::ColourTable as u16;
 
-pub const FRAME_MEAN: u16 = 15;
+pub const FRAME_MEAN: u16 = Name::FrameMean as u16;
 
-pub const USER_DEFAULTS: u16 = 18;
+pub const USER_DEFAULTS: u16 = Name::UserDefaults as u16;
 
-pub const RESTORE: u16 = 19;
+pub const RESTORE: u16 = Name::Restore as u16;
 
 impl Attribute {
     // The attribute of a number, or none past the table's end.
@@ -319,20 +319,14 @@ pub fn size_of(number: u16) -> usize
     ensures bound { result ≤ 512 }
 {
     size_law(number);
-    match Attribute::of(number) {
-        Some(found) => usize::from(found.words),
-        None => 0,
-    }
+    Attribute::of(number).map_or(0, |found| usize::from(found.words))
 }
 
 // Whether a user may set the attribute of a number.
 pub fn is_settable(number: u16) -> bool
     ensures value { result ≡ is_settable number }
 {
-    match Attribute::of(number) {
-        Some(found) => found.offers(Kind::Set),
-        None => false,
-    }
+    Attribute::of(number).is_some_and(|found| found.offers(Kind::Set))
 }
 
 // Whether the user defaults save the attribute of a number: each that can be set is saved, but for the colour table.

@@ -27,8 +27,7 @@ impl Fault {
         ensures value { result ≡ fault_address self }
     {
         match self {
-            Fault::NotAcknowledged { address } => address,
-            Fault::NoRegister { address } => address,
+            Fault::NotAcknowledged { address } | Fault::NoRegister { address } => address,
         }
     }
 }
