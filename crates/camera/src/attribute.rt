@@ -2,8 +2,10 @@
 ghost use Rattle.camera.specs.Attributes.{attribute_at, has, is_saved, is_settable, size_of};
 ghost use Rattle.std.specs.Prelude.{◌≡◌, ◌≤◌};
 
+use crate::command::Command;
+
 // What a command does: it gets or sets an attribute, or runs what the attribute stands for.
-#[derive(Clone, Copy)]
+#[derive(Clone, Copy, Debug, PartialEq, Eq)]
 pub enum Kind {
     Get,
     Set,
@@ -11,7 +13,7 @@ pub enum Kind {
 }
 
 // Which kinds of command an attribute has.
-#[derive(Clone, Copy)]
+#[derive(Clone, Copy, Debug, PartialEq, Eq)]
 pub struct Kinds {
     pub gets: bool,
     pub sets: bool,
@@ -19,7 +21,7 @@ pub struct Kinds {
 }
 
 // The attributes by name, in the order of their numbers.
-#[derive(Clone, Copy)]
+#[derive(Clone, Copy, Debug, PartialEq, Eq)]
 pub enum Name {
     GainControl,
     Status,
@@ -44,7 +46,7 @@ pub enum Name {
 }
 
 // Which words may be set.
-#[derive(Clone, Copy)]
+#[derive(Clone, Copy, Debug, PartialEq, Eq)]
 pub enum Limits {
     // none: the attribute cannot be set
     Fixed,
@@ -61,7 +63,7 @@ pub enum Limits {
 }
 
 // One row of the table of attributes.
-#[derive(Clone, Copy)]
+#[derive(Clone, Copy, Debug, PartialEq, Eq)]
 pub struct Attribute {
     pub name: Name,
     // its command words without type and protection bit
@@ -326,7 +328,11 @@ pub fn size_of(number: u16) -> usize
 pub fn is_settable(number: u16) -> bool
     ensures value { result ≡ is_settable number }
 {
-    Attribute::of(number).is_some_and(|found| found.offers(Kind::Set))
+    let set = Command {
+        kind: Kind::Set,
+        number,
+    };
+    set.is_offered()
 }
 
 // Whether the user defaults save the attribute of a number: each that can be set is saved, but for the colour table.

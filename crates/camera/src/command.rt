@@ -8,7 +8,7 @@ use crate::attribute::{Attribute, Kind, size_of};
 use crate::directory::attribute_in;
 
 // A command: its kind, and the number of the attribute.
-#[derive(Clone, Copy)]
+#[derive(Clone, Copy, Debug, PartialEq, Eq)]
 pub struct Command {
     pub kind: Kind,
     pub number: u16,
