@@ -292,6 +292,7 @@ pub const RESTORE: u16 = Name::Restore as u16;
 
 impl Attribute {
     // The attribute of a number, or none past the table's end.
+    #[tactic(auto, using(crate::proofs::Lists::item_nth), unfolding(crate::specs::Attributes::attribute_at))]
     pub fn of(number: u16) -> Option<Attribute>
         ensures value { result ≡ attribute_at number }
     {
@@ -310,17 +311,12 @@ impl Attribute {
     }
 }
 
-// A law, with nothing to run: no attribute has more words than the block buffer.
-fn size_law(number: u16)
-    ensures bound { size_of number ≤ 512 }
-{}
-
 // How many words the attribute of a number has: 512 at most, and none where there is no attribute.
+#[tactic(auto, using(crate::proofs::Sizes::words_bound))]
 pub fn size_of(number: u16) -> usize
     ensures value { result ≡ size_of number }
     ensures bound { result ≤ 512 }
 {
-    size_law(number);
     Attribute::of(number).map_or(0, |found| usize::from(found.words))
 }
 

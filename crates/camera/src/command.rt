@@ -35,11 +35,6 @@ impl Kind {
     }
 }
 
-// A law, with nothing to run: each command of an attribute has one word, and that word asks for no other command.
-fn one_word_law(word: u16)
-    ensures stands { OneWord word }
-{}
-
 // What stands above the module in a command word: the protection bit for module 8, nothing for the others.
 fn protection_of(word: u16) -> u16
     ensures value { result ≡ protection (module_of word) }
@@ -75,11 +70,11 @@ impl Command {
     }
 
     // What a command word asks for, or nothing if it is none.
+    #[tactic(auto, using(crate::proofs::CommandWords::one_word))]
     pub fn of(word: u16) -> Option<Command>
         ensures value { result ≡ command_of word }
         ensures stands { OneWord word }
     {
-        one_word_law(word);
         let number = attribute_in(word / 4 % 1024)?;
         if word / 4096 != protection_of(word) {
             return None;
