@@ -11,6 +11,7 @@ ghost use Rattle.packet.specs.Reading.{ReplyStands, RequestStands, reply_of, req
 
 pub use access::{Access, Denial, Function, Reply};
 use parts::Parts;
+pub use parts::ROOM;
 pub use refusal::PacketRefusal;
 
 // Reads a byte string as a request.

@@ -13,7 +13,7 @@ use crc::checksum;
 const PROCESS_CODE: u8 = 0x6E;
 
 // What a buffer has to hold: the largest packet, a write request.
-const ROOM: usize = 14;
+pub const ROOM: usize = 14;
 
 // What a packet says.
 #[derive(Clone, Copy)]
