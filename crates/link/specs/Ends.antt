@@ -7,10 +7,10 @@ use Rattle.packet.specs.declared.Access.{Access}
 use Rattle.packet.specs.declared.PacketRefusal.{PacketRefusal}
 use Rattle.packet.specs.declared.PacketRefusal.TheVariants.{Buffer}
 use Rattle.packet.specs.declared.Reply.{Reply}
-use Rattle.packet.specs.Layout.{over, reply_packet, request_packet, room}
+use Rattle.packet.specs.Layout.{address_of, function_of, over, reply_packet, request_packet, room}
 use Rattle.packet.specs.Reading.{reply_of, request_of}
 use Rattle.link.specs.declared.answers.Answer.{Answer}
-use Rattle.link.specs.Line.{address_of, answer_in, carried, function_of, reply_for}
+use Rattle.link.specs.Line.{answer_in, carried, reply_for}
 
 -- what stands at the far end: the buffer for the reply, and the camera behind the bus
 pub record FarEnd : Type 0 where

@@ -9,21 +9,11 @@ use Rattle.packet.specs.declared.Access.TheVariants.{Read as ReadAccess, Write a
 use Rattle.packet.specs.declared.Denial.{Denial}
 use Rattle.packet.specs.declared.Denial.TheVariants.{NotAcknowledged as Unacknowledged, NoRegister as Missing}
 use Rattle.packet.specs.declared.Function.{Function}
-use Rattle.packet.specs.declared.Function.TheVariants.{Read, Write}
 use Rattle.packet.specs.declared.Reply.{Reply}
 use Rattle.packet.specs.declared.Reply.TheVariants.{Read as ReadReply, Write as WriteReply}
+use Rattle.packet.specs.Layout.{denied}
 use Rattle.link.specs.declared.answers.Answer.{Answer}
 use Rattle.link.specs.declared.answers.Answer.TheVariants.{Word, Done}
-
--- the function of a request for an access
-abbrev pub function_of : Access → Function
-function_of (ReadAccess address) = Read
-function_of (WriteAccess address word) = Write
-
--- the address of an access
-abbrev pub address_of : Access → ℕ
-address_of (ReadAccess address) = address
-address_of (WriteAccess address word) = address
 
 -- an answer that is there, as the answer of an access
 abbrev pub as_answer : {A : Type 0} → (A → Answer) → Result A Fault → Result Answer Fault
@@ -44,11 +34,6 @@ denial_of (NoRegister address) = Missing
 abbrev pub fault_at : ℕ → Denial → Fault
 fault_at address Unacknowledged = NotAcknowledged address
 fault_at address Missing = NoRegister address
-
--- a denial as the reply to a function
-abbrev pub denied : Function → Denial → Reply
-denied Read denial = ReadReply (Err denial)
-denied Write denial = WriteReply (Err denial)
 
 -- the reply to a request with a function, for what its access answered
 abbrev pub reply_for : Function → Result Answer Fault → Reply

@@ -1,12 +1,13 @@
 // What an access answers, and how a reply says it.
-ghost use Rattle.link.specs.Line.{address_of, answer_in, denial_of, fault_at, function_of, reply_for};
-ghost use Rattle.std.specs.Prelude.{◌≡◌, Ok, Err};
+ghost use Rattle.link.specs.Line.{answer_in, denial_of, fault_at, reply_for};
+ghost use Rattle.std.specs.Prelude.{◌≡◌};
 
 use camera::Fault;
 use packet::{Access, Denial, Function, Reply};
 
-// What an access answers that was carried out.
-#[derive(Clone, Copy)]
+// What an access answers that was carried out. It has the shape of an `Option<u16>`, but nothing is absent where a write
+// is done: a `None` would read as no answer, and no method of `Option` would have a use here.
+#[derive(Clone, Copy, Debug, PartialEq, Eq)]
 pub enum Answer {
     // the word of a read
     Word(u16),
@@ -14,27 +15,7 @@ pub enum Answer {
     Done,
 }
 
-// The function of a request for an access.
-pub(crate) fn function_of(access: Access) -> Function
-    ensures value { result ≡ function_of access }
-{
-    match access {
-        Access::Read { .. } => Function::Read,
-        Access::Write { .. } => Function::Write,
-    }
-}
-
-// The address of an access.
-pub(crate) fn address_of(access: Access) -> u16
-    ensures value { result ≡ address_of access }
-{
-    match access {
-        Access::Read { address } => address,
-        Access::Write { address, .. } => address,
-    }
-}
-
-// What a reply says of a fault: its kind, and not its address.
+// What a reply says of a fault: its kind, and not its address. No `From`, since both types are of other crates.
 fn denial_of(fault: Fault) -> Denial
     ensures value { result ≡ denial_of fault }
 {
@@ -58,11 +39,10 @@ fn fault_at(address: u16, denial: Denial) -> Fault
 pub(crate) fn reply_for(function: Function, answer: Result<Answer, Fault>) -> Reply
     ensures value { result ≡ reply_for function answer }
 {
-    match (function, answer) {
-        (_, Ok(Answer::Word(word))) => Reply::Read(Ok(word)),
-        (_, Ok(Answer::Done)) => Reply::Write(Ok(())),
-        (Function::Read, Err(fault)) => Reply::Read(Err(denial_of(fault))),
-        (Function::Write, Err(fault)) => Reply::Write(Err(denial_of(fault))),
+    match answer {
+        Ok(Answer::Word(word)) => Reply::Read(Ok(word)),
+        Ok(Answer::Done) => Reply::Write(Ok(())),
+        Err(fault) => Reply::denied(function, denial_of(fault)),
     }
 }
 

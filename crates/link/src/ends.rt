@@ -7,14 +7,11 @@ ghost use Rattle.link.specs.Line.{carried};
 ghost use Rattle.packet.specs.Layout.{buffer_after, over, reply_packet, request_packet, room, written};
 ghost use Rattle.packet.specs.Reading.{RequestStands, request_of};
 
-use crate::answers::{Answer, address_of, answer_in, function_of, reply_for};
+use crate::answers::{Answer, answer_in, reply_for};
 use camera::{Bus, Fault};
 use packet::{
-    Access, PacketRefusal, Reply, pack_reply, pack_request, unpack_reply, unpack_request,
+    Access, PacketRefusal, ROOM, Reply, pack_reply, pack_request, unpack_reply, unpack_request,
 };
-
-// What a buffer for a packet has to hold.
-pub(crate) const ROOM: usize = 14;
 
 // The near end, before the line: writes the request for an access to the front of a buffer of at least 14 bytes, and says
 // how many bytes it has.
@@ -39,25 +36,12 @@ pub fn carry_out<B: Bus>(bus: &mut B, access: Access) -> Result<Answer, Fault>
     }
 }
 
-// Writes a reply to the front of a buffer that has room for it, and says how many bytes it has.
-fn write_reply(reply: Reply, buffer: &mut [u8]) -> usize
-    requires { room ≤ length buffer.old }
-    ensures size { result ≡ length (reply_packet reply) }
-    ensures after { buffer.new ≡ over (reply_packet reply) buffer.old }
-{
-    match pack_reply(reply, buffer) {
-        Ok(size) => size,
-        Err(_) => unreachable(),
-    }
-}
-
-// Carries out an access that was asked for, and writes the reply to it.
-fn reply_to<B: Bus>(bus: &mut B, access: Access, buffer: &mut [u8]) -> usize
-    requires { room ≤ length buffer.old }
+// Carries out an access that was asked for, writes the reply to the front of a buffer, and says how many bytes it has.
+fn reply_to<B: Bus>(bus: &mut B, access: Access, buffer: &mut [u8; ROOM]) -> usize
     ensures outcome { ended (Ok result) (far_end buffer.new (B.Bus.state bus.new)) ≡ reply_to access (carried access (B.Bus.state bus.old)) buffer.old }
 {
     let answer = carry_out(bus, access);
-    write_reply(reply_for(function_of(access), answer), buffer)
+    pack_reply(reply_for(access.function(), answer), buffer).unwrap()
 }
 
 // Reads a byte string as a request.
@@ -77,10 +61,10 @@ pub fn serve<B: Bus>(bus: &mut B, request: &[u8], buffer: &mut [u8]) -> Result<u
     ensures whole { OnlyRequests request.now }
 {
     let access = read_request(request)?;
-    if buffer.len() < ROOM {
+    let Some(front) = buffer.first_chunk_mut::<ROOM>() else {
         return Err(PacketRefusal::Buffer);
-    }
-    Ok(reply_to(bus, access, buffer))
+    };
+    Ok(reply_to(bus, access, front))
 }
 
 // Reads a byte string as the reply to an access.
@@ -88,7 +72,7 @@ fn read_reply(access: Access, bytes: &[u8]) -> Result<Reply, PacketRefusal>
     ensures value { result ≡ reply_read access bytes.now }
     ensures whole { OnlyReplies access bytes.now }
 {
-    unpack_reply(function_of(access), bytes)
+    unpack_reply(access.function(), bytes)
 }
 
 // The near end, behind the line: what the reply to an access answers.
@@ -97,5 +81,5 @@ pub fn answer_to(access: Access, bytes: &[u8]) -> Result<Result<Answer, Fault>, 
     ensures whole { OnlyReplies access bytes.now }
 {
     let reply = read_reply(access, bytes)?;
-    Ok(answer_in(address_of(access), reply))
+    Ok(answer_in(access.address(), reply))
 }

@@ -1,6 +1,7 @@
 -- Words as bytes, and byte strings that end in their checksum.
 use Rattle.std.proofs.Common.{◌≡◌, ℕ, zero, suc, ◌+◌, ◌-◌, ◌*◌, ◌/◌, ◌%◌, ◌<◌, ◌≤◌, true, List, [], ◌∷◌, ◌++◌, length, get_or, take, drop, sym, refl, ap, ◌∙◌, ap₂, div-add-mod', add-sub_cancel, arith, eq-eqb}
 use Rattle.std.proofs.lemmas.List.{length-append, get_or-append-add, get_or-drop, take_at, take-append-drop, length-drop}
+use Rattle.std.specs.Int.{w16, to_be_bytes}
 use Rattle.crc.specs.Crc.{crc_of, crc_bytes, Bytes}
 use Rattle.packet.specs.Layout.{be_bytes, be_word, with_checksum}
 use Rattle.packet.specs.Reading.{byte_at, word_at, ends_in_checksum}
@@ -23,6 +24,10 @@ be_back high low h l =
     let a : (high * 256 + low) / 256 ≡ high = omega arith in
     let b : (high * 256 + low) % 256 ≡ low = omega arith in
     ap₂ (λ x y. x ∷ y ∷ []) a b
+
+-- the library's bytes of a word are those that are sent
+pub sent : (word : ℕ) → word < 65536 → to_be_bytes w16 word ≡ be_bytes word
+sent word small = let high : word / 256 % 256 ≡ word / 256 = omega arith in ap (λ h. h ∷ word % 256 ∷ []) high
 
 pub bytes_take : (n : ℕ) (xs : List ℕ) → Bytes xs → Bytes (take n xs)
 bytes_take zero xs h i = omega arith

@@ -2,13 +2,13 @@
 use Rattle.std.proofs.Common.{◌≡◌, ℕ, zero, suc, ◌+◌, Bool, true, false, cond, eqb, List, [], ◌∷◌, ◌++◌, length, get_or, None, Ok, Err, sym, refl, ap, ◌∙◌, ap₂, div-add-mod', arith}
 use Rattle.std.proofs.lemmas.List.{nil_from_length}
 use Rattle.crc.specs.Crc.{Bytes}
-use Rattle.packet.specs.declared.Access.{Access}
-use Rattle.packet.specs.declared.Access.TheVariants.{Read as ReadAccess, Write as WriteAccess}
-use Rattle.packet.specs.declared.Denial.TheVariants.{NotAcknowledged, NoRegister}
-use Rattle.packet.specs.declared.Function.{Function}
-use Rattle.packet.specs.declared.Function.TheVariants.{Read, Write}
-use Rattle.packet.specs.declared.Reply.{Reply}
-use Rattle.packet.specs.declared.Reply.TheVariants.{Read as ReadReply, Write as WriteReply}
+use Rattle.packet.specs.declared.access.Access.{Access}
+use Rattle.packet.specs.declared.access.Access.TheVariants.{Read as ReadAccess, Write as WriteAccess}
+use Rattle.packet.specs.declared.access.Denial.TheVariants.{NotAcknowledged, NoRegister}
+use Rattle.packet.specs.declared.access.Function.{Function}
+use Rattle.packet.specs.declared.access.Function.TheVariants.{Read, Write}
+use Rattle.packet.specs.declared.access.Reply.{Reply}
+use Rattle.packet.specs.declared.access.Reply.TheVariants.{Read as ReadReply, Write as WriteReply}
 use Rattle.packet.specs.Layout.{Content, be_bytes, function_code, request_content, answer_content, reply_content, reply_function}
 use Rattle.packet.specs.Reading.{word_at, request_tests, asked, access_of, reply_tests, reply_fits, answer_count, answered, said, answer_of}
 use Rattle.checks.specs.Tests.{AllPass, first_failing}

@@ -1,9 +1,9 @@
 -- Packets and their meaning stand for one another: the laws of requests and of replies.
 use Rattle.std.proofs.Common.{◌≡◌, ℕ, List, Ok, Err, Result, refl, ap, ◌∙◌, arith}
 use Rattle.crc.specs.Crc.{Bytes}
-use Rattle.packet.specs.declared.Access.{Access}
-use Rattle.packet.specs.declared.PacketRefusal.{PacketRefusal}
-use Rattle.packet.specs.declared.Reply.{Reply}
+use Rattle.packet.specs.declared.access.Access.{Access}
+use Rattle.packet.specs.declared.refusal.PacketRefusal.{PacketRefusal}
+use Rattle.packet.specs.declared.access.Reply.{Reply}
 use Rattle.packet.specs.Layout.{Content, packet, request_content, reply_content, reply_function}
 use Rattle.packet.specs.Reading.{content_of, access_of, answer_of, then, RequestStands, ReplyStands}
 use Rattle.packet.proofs.Contents.{content_reads, content_only, content_bytes}

@@ -1,16 +1,16 @@
 -- What a packet looks like, and which packets stand for a request and for a reply.
 use Rattle.std.specs.Prelude.{ℕ, ◌+◌, ◌*◌, ◌/◌, ◌%◌, cond, List, [], ◌∷◌, ◌++◌, length, take, drop, Ok, Err, Result, nat_lt}
 use Rattle.crc.specs.Crc.{crc_of, crc_bytes}
-use Rattle.packet.specs.declared.Access.{Access}
-use Rattle.packet.specs.declared.Access.TheVariants.{Read as ReadAccess, Write as WriteAccess}
-use Rattle.packet.specs.declared.Denial.{Denial}
-use Rattle.packet.specs.declared.Denial.TheVariants.{NotAcknowledged, NoRegister}
-use Rattle.packet.specs.declared.Function.{Function}
-use Rattle.packet.specs.declared.Function.TheVariants.{Read, Write}
-use Rattle.packet.specs.declared.PacketRefusal.{PacketRefusal}
-use Rattle.packet.specs.declared.PacketRefusal.TheVariants.{Length, Start, FrontChecksum, Checksum, Reserved, WrongFunction, Fields, Buffer}
-use Rattle.packet.specs.declared.Reply.{Reply}
-use Rattle.packet.specs.declared.Reply.TheVariants.{Read as ReadReply, Write as WriteReply}
+use Rattle.packet.specs.declared.access.Access.{Access}
+use Rattle.packet.specs.declared.access.Access.TheVariants.{Read as ReadAccess, Write as WriteAccess}
+use Rattle.packet.specs.declared.access.Denial.{Denial}
+use Rattle.packet.specs.declared.access.Denial.TheVariants.{NotAcknowledged, NoRegister}
+use Rattle.packet.specs.declared.access.Function.{Function}
+use Rattle.packet.specs.declared.access.Function.TheVariants.{Read, Write}
+use Rattle.packet.specs.declared.refusal.PacketRefusal.{PacketRefusal}
+use Rattle.packet.specs.declared.refusal.PacketRefusal.TheVariants.{Length, Start, FrontChecksum, Checksum, Reserved, WrongFunction, Fields, Buffer}
+use Rattle.packet.specs.declared.access.Reply.{Reply}
+use Rattle.packet.specs.declared.access.Reply.TheVariants.{Read as ReadReply, Write as WriteReply}
 
 -- the process code, with which every packet starts
 abbrev pub process_code : ℕ
@@ -25,6 +25,21 @@ function_code Write = 0x11
 abbrev pub denial_status : Denial → ℕ
 denial_status NotAcknowledged = 1
 denial_status NoRegister = 2
+
+-- the function of a request for an access
+abbrev pub function_of : Access → Function
+function_of (ReadAccess address) = Read
+function_of (WriteAccess address word) = Write
+
+-- the address of an access
+abbrev pub address_of : Access → ℕ
+address_of (ReadAccess address) = address
+address_of (WriteAccess address word) = address
+
+-- a denial as the reply to a function
+abbrev pub denied : Function → Denial → Reply
+denied Read denial = ReadReply (Err denial)
+denied Write denial = WriteReply (Err denial)
 
 -- a number of sixteen bits as it is sent: two bytes, the high one first
 abbrev pub be_bytes : ℕ → List ℕ

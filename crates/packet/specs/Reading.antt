@@ -1,19 +1,19 @@
 -- How a byte string is read as a request or as the reply to a request: the tests in their order, the first failing one
 -- giving the refusal, and the value of a string that passes them all.
-use Rattle.std.specs.Prelude.{◌≡◌, ℕ, ◌+◌, ◌-◌, Bool, true, cond, List, [], ◌∷◌, length, take, drop, Ok, Err, Result, ◌==◌, nat_le, slice_index}
+use Rattle.std.specs.Prelude.{◌≡◌, ℕ, ◌+◌, ◌-◌, Bool, true, false, cond, List, [], ◌∷◌, length, take, drop, Ok, Err, Result, MatchResult, ◌==◌, nat_le, slice_index}
 use Rattle.checks.specs.Tests.{both, judged}
 use Rattle.crc.specs.Crc.{crc_of, Bytes}
-use Rattle.packet.specs.declared.Access.{Access}
-use Rattle.packet.specs.declared.Access.TheVariants.{Read as ReadAccess, Write as WriteAccess}
-use Rattle.packet.specs.declared.Denial.{Denial}
-use Rattle.packet.specs.declared.Denial.TheVariants.{NotAcknowledged, NoRegister}
-use Rattle.packet.specs.declared.Function.{Function}
-use Rattle.packet.specs.declared.Function.TheVariants.{Read, Write}
-use Rattle.packet.specs.declared.PacketRefusal.{PacketRefusal}
-use Rattle.packet.specs.declared.PacketRefusal.TheVariants.{Length, Start, FrontChecksum, Checksum, Reserved, WrongFunction, Fields}
-use Rattle.packet.specs.declared.Reply.{Reply}
-use Rattle.packet.specs.declared.Reply.TheVariants.{Read as ReadReply, Write as WriteReply}
-use Rattle.packet.specs.Layout.{Content, process_code, function_code, be_word, request_packet, reply_packet, reply_function}
+use Rattle.packet.specs.declared.access.Access.{Access}
+use Rattle.packet.specs.declared.access.Access.TheVariants.{Read as ReadAccess, Write as WriteAccess}
+use Rattle.packet.specs.declared.access.Denial.{Denial}
+use Rattle.packet.specs.declared.access.Denial.TheVariants.{NotAcknowledged, NoRegister}
+use Rattle.packet.specs.declared.access.Function.{Function}
+use Rattle.packet.specs.declared.access.Function.TheVariants.{Read, Write}
+use Rattle.packet.specs.declared.refusal.PacketRefusal.{PacketRefusal}
+use Rattle.packet.specs.declared.refusal.PacketRefusal.TheVariants.{Length, Start, FrontChecksum, Checksum, Reserved, WrongFunction, Fields}
+use Rattle.packet.specs.declared.access.Reply.{Reply}
+use Rattle.packet.specs.declared.access.Reply.TheVariants.{Read as ReadReply, Write as WriteReply}
+use Rattle.packet.specs.Layout.{Content, process_code, denial_status, function_code, be_word, request_packet, reply_packet, reply_function}
 
 -- the byte at a place
 abbrev pub byte_at : List ℕ → ℕ → ℕ
@@ -49,6 +49,14 @@ content_of p = judged (packet_tests p) (content_in p)
 -- a function code that is known
 abbrev pub is_function : ℕ → Bool
 is_function code = cond (code == function_code Read) true (code == function_code Write)
+
+-- a code read as its function, refused if it is not known
+abbrev pub DecodesFunction : ℕ → Result Function PacketRefusal → Type 0
+DecodesFunction code answer = MatchResult answer (λ function. function_code function ≡ code) (λ refusal. (refusal ≡ WrongFunction) × (is_function code ≡ false))
+
+-- a status read as the denial that it says, refused if it says none
+abbrev pub DecodesDenial : ℕ → Result Denial PacketRefusal → Type 0
+DecodesDenial status answer = MatchResult answer (λ denial. denial_status denial ≡ status) (λ refusal. (refusal ≡ Fields) × (both (nat_le 1 status) (nat_le status 2) ≡ false))
 
 -- how many argument bytes a request has: the address, and for a write the word
 abbrev pub request_count : ℕ → ℕ

@@ -8,6 +8,6 @@ pub returns : goal.returns
 unfolding reply_read
 returns c =
     record {
-      value = c.unpack_reply.ensures.answer ∙ ap (λ f. reply_of f c.args.bytes.now) c.function_of.ensures.value;
+      value = c.unpack_reply.ensures.answer ∙ ap (λ f. reply_of f c.args.bytes.now) c.function.ensures.value;
       whole = only_replies c.args.access c.args.bytes.now (λ i. omega (arith, c.type_inv.bytes i));
     }

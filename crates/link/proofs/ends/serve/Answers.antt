@@ -1,0 +1,13 @@
+use Rattle.std.proofs.Common.{sym, ◌∙◌}
+use Rattle.link.specs.Line.{carried}
+use Rattle.link.proofs.Crossing.{replied_in_front, served_there}
+use Rattle.link.proofs.ends.serve.Goals as goal
+
+pub returns-clause-outcome : goal.returns-clause-outcome
+returns-clause-outcome g c =
+    let b = c.args.buffer.now in
+    let access = c.in_ok-access.access in
+    let s = g.B.Bus.state c.args.bus.now in
+    replied_in_front access (carried access s) b c.in-Some.front.now c.reply_to.new.buffer c.reply_to.result (g.B.Bus.state c.reply_to.new.bus)
+    c.in-Some.ensures.cases.same c.reply_to.ensures.outcome
+    ∙ sym (served_there c.args.request.now b access s c.in-Some.ensures.cases.enough (sym c.in_ok-access.ensures.value))

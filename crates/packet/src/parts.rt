@@ -1,0 +1,171 @@
+// What a packet says, read out of its bytes and written into them.
+ghost use Rattle.std.specs.Prelude.{◌≡◌, ◌+◌, ◌≤◌, [], length, take};
+ghost use Rattle.crc.specs.Crc.{crc_bytes, crc_of};
+ghost use Rattle.packet.specs.Layout.{buffer_after, content, denial_status, function_code, laid, packet, written};
+ghost use Rattle.packet.specs.Reading.{access_of, answer_of, content_of, ends_in_checksum, then};
+ghost use Rattle.packet.specs.Views.{known, opened_content, parts_content};
+
+use crate::access::{Access, Denial, Function, Reply};
+use crate::refusal::PacketRefusal;
+use crc::checksum;
+
+// The process code, with which every packet starts.
+const PROCESS_CODE: u8 = 0x6E;
+
+// What a buffer has to hold: the largest packet, a write request.
+pub const ROOM: usize = 14;
+
+// What a packet says.
+#[derive(Clone, Copy)]
+pub(crate) struct Parts<'a> {
+    pub(crate) status: u8,
+    pub(crate) function: Function,
+    pub(crate) arguments: &'a [u8],
+}
+
+impl<'a> Parts<'a> {
+    // Takes a packet apart, or refuses it by the first of its tests that fails.
+    pub(crate) fn open(packet: &'a [u8]) -> Result<Parts<'a>, PacketRefusal>
+        ensures value { opened_content result ≡ then (content_of packet.now) known }
+    {
+        let [
+            start,
+            status,
+            reserved,
+            function,
+            count_high,
+            count_low,
+            _,
+            _,
+            arguments @ ..,
+            _,
+            _,
+        ] = packet
+        else {
+            return Err(PacketRefusal::Length);
+        };
+        if *start != PROCESS_CODE {
+            return Err(PacketRefusal::Start);
+        }
+        if !ends_in_checksum(&packet[..8]) {
+            return Err(PacketRefusal::FrontChecksum);
+        }
+        if arguments.len() != usize::from(u16::from_be_bytes([*count_high, *count_low])) {
+            return Err(PacketRefusal::Length);
+        }
+        if !ends_in_checksum(packet) {
+            return Err(PacketRefusal::Checksum);
+        }
+        if *reserved != 0 {
+            return Err(PacketRefusal::Reserved);
+        }
+        Ok(Parts {
+            status: *status,
+            function: Function::try_from(*function)?,
+            arguments,
+        })
+    }
+
+    // What the packet of a request asks for.
+    pub(crate) fn access(self) -> Result<Access, PacketRefusal>
+        ensures value { result ≡ access_of (parts_content self.entry) }
+    {
+        match (self.function, self.status, self.arguments) {
+            (Function::Read, 0, [high, low]) => Ok(Access::Read {
+                address: u16::from_be_bytes([*high, *low]),
+            }),
+            (Function::Write, 0, [high, low, word_high, word_low]) => Ok(Access::Write {
+                address: u16::from_be_bytes([*high, *low]),
+                word: u16::from_be_bytes([*word_high, *word_low]),
+            }),
+            _ => Err(PacketRefusal::Fields),
+        }
+    }
+
+    // What the packet of a reply says to a request with a function.
+    pub(crate) fn reply(self, function: Function) -> Result<Reply, PacketRefusal>
+        ensures value { result ≡ answer_of function (parts_content self.entry) }
+    {
+        if self.function != function {
+            return Err(PacketRefusal::WrongFunction);
+        }
+        match (function, self.status, self.arguments) {
+            (Function::Read, 0, [high, low]) => {
+                let word = u16::from_be_bytes([*high, *low]);
+                Ok(Reply::Read(Ok(word)))
+            }
+            (Function::Write, 0, []) => Ok(Reply::Write(Ok(()))),
+            (_, status, []) => Ok(Reply::denied(function, Denial::try_from(status)?)),
+            _ => Err(PacketRefusal::Fields),
+        }
+    }
+
+    // A request, or the reply to an access that was carried out.
+    pub(crate) fn plain(function: Function, arguments: &'a [u8]) -> Parts<'a>
+        ensures value { result ≡ record { status = 0; function = function; arguments = arguments.entry } }
+    {
+        Parts {
+            status: 0,
+            function,
+            arguments,
+        }
+    }
+
+    // The reply to an access that was not carried out.
+    pub(crate) fn denied(function: Function, denial: Denial) -> Parts<'static>
+        ensures value { parts_content result ≡ content (denial_status denial) (function_code function) [] }
+    {
+        Parts {
+            status: denial.status(),
+            function,
+            arguments: &[],
+        }
+    }
+
+    // Writes the packet to the front of a buffer, and says how many bytes it has.
+    pub(crate) fn write(self, buffer: &mut [u8]) -> Result<usize, PacketRefusal>
+        requires { length self.arguments.now ≤ 4 }
+        ensures answer { result ≡ written (packet (parts_content self.entry)) buffer.old }
+        ensures after { buffer.new ≡ buffer_after (packet (parts_content self.entry)) buffer.old }
+    {
+        if buffer.len() < ROOM {
+            return Err(PacketRefusal::Buffer);
+        }
+        let [count_high, count_low] = (self.arguments.len() as u16).to_be_bytes();
+        let function = self.function.code();
+        let front = [
+            PROCESS_CODE,
+            self.status,
+            0,
+            function,
+            count_high,
+            count_low,
+        ];
+        let end = 8 + self.arguments.len();
+        buffer[..6].copy_from_slice(&front);
+        seal(buffer, 6);
+        buffer[8..end].copy_from_slice(self.arguments);
+        seal(buffer, end);
+        Ok(end + 2)
+    }
+}
+
+// Whether the last two bytes are the checksum of those before them.
+fn ends_in_checksum(bytes: &[u8]) -> bool
+    requires { 2 ≤ length bytes.now }
+    ensures value { result ≡ ends_in_checksum bytes.now }
+{
+    match bytes {
+        [front @ .., high, low] => u16::from_be_bytes([*high, *low]) == checksum(front),
+        _ => unreachable!(),
+    }
+}
+
+// Writes the checksum of the bytes in front of a place to that place.
+fn seal(buffer: &mut [u8], end: usize)
+    requires { end + 2 ≤ length buffer.old }
+    ensures after { buffer.new ≡ laid buffer.old end (crc_bytes (crc_of (take end buffer.old))) }
+{
+    let sum = checksum(&buffer[..end]);
+    buffer[end..end + 2].copy_from_slice(&sum.to_be_bytes());
+}
