@@ -1,4 +1,3 @@
-pub mod Queues
 pub mod Meaning
 pub mod Making
 pub mod Questions

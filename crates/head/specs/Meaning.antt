@@ -8,7 +8,6 @@ use Rattle.head.specs.declared.inner.Inner.{Inner}
 use Rattle.head.specs.declared.inner.Record.{Record}
 use Rattle.head.specs.declared.inner.Table.{Table}
 use Rattle.head.specs.declared.memory.Head.{Head}
-use Rattle.head.specs.Queues.{left}
 
 pub zeros_below : (n k : ℕ) → slice_index (replicate n 0) k < 65536
 zeros_below zero k = lit< tt
@@ -38,13 +37,13 @@ head_state head =
       hung = head.inner.hung;
       boot = head.inner.boot;
       busy = head.inner.busy;
-      acks = left head.acks;
+      acks = head.acks.items;
       registers = registers_in head.inner;
       interpreter = record {
         code = head.inner.code;
         count = head.inner.count;
         words = words_in head.inner.table.records;
         saved = saved_in head.inner.saved;
-        coming = left head.coming;
+        coming = head.coming.items;
       };
     }

@@ -35,7 +35,7 @@ impl Head {
     fn acknowledge(&mut self, address: u16) -> Result<(), Fault>
         ensures outcome { ended result (head_state self.new) ≡ unless_unacknowledged (next_ack (head_state self.old).acks) address (marked (head_state self.old)) (ended (Ok tt) (marked (head_state self.old))) }
     {
-        match self.acks.pop() {
+        match self.acks.pop_front() {
             Some(false) => Err(Fault::NotAcknowledged { address }),
             _ => Ok(()),
         }

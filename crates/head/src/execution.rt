@@ -52,7 +52,7 @@ impl Head {
         ensures after { head_state self.new ≡ taken (head_state self.old) }
     {
         self.inner.count = self.inner.count.wrapping_add(1);
-        self.inner.busy = self.coming.pop().unwrap_or(0);
+        self.inner.busy = self.coming.pop_front().unwrap_or(0);
     }
 
     // The words of an attribute that stand in the registers.

@@ -8,7 +8,6 @@ mod making;
 mod memory;
 mod picture;
 mod questions;
-mod queue;
 mod settings;
 mod table;
 

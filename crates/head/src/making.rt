@@ -6,9 +6,9 @@ ghost use Rattle.head.specs.Meaning.{blank, head_state, words_in};
 
 use crate::inner::{Inner, Record, Table};
 use crate::memory::Head;
-use crate::queue::Queue;
 use crate::settings::{BadSettings, HeadSettings};
 use camera::{Attribute, FPA_TEMPERATURE, SERIAL_NUMBER};
+use std::collections::VecDeque;
 use words::WordCodec;
 
 // The record of an attribute with its start words.
@@ -75,8 +75,8 @@ impl Head {
         };
         Ok(Head {
             inner,
-            coming: Queue::new(busy),
-            acks: Queue::new(acks),
+            coming: VecDeque::from(busy),
+            acks: VecDeque::from(acks),
         })
     }
 }
