@@ -3,3 +3,4 @@ pub mod Making
 pub mod Questions
 pub mod Pictures
 pub mod Filling
+pub mod Accesses
