@@ -1,8 +1,10 @@
 // Command words: what a word in the command register asks for.
 ghost use Rattle.camera.specs.Commands.{OneWord, command_of, module_of, protection, type_bits, word_of};
-ghost use Rattle.std.specs.Prelude.{◌≡◌};
+ghost use Rattle.camera.specs.Attributes.{offers};
+ghost use Rattle.camera.specs.Execution.{moved};
+ghost use Rattle.std.specs.Prelude.{◌≡◌, ◌≤◌};
 
-use crate::attribute::{Attribute, Kind};
+use crate::attribute::{Attribute, Kind, size_of};
 use crate::directory::{NO_ATTRIBUTE, directory_entry};
 
 // A command: its kind, and the number of the attribute.
@@ -38,6 +40,24 @@ fn protection_of(word: u16) -> u16
 }
 
 impl Command {
+    // Whether there is such an attribute and it has that kind of command.
+    pub fn is_offered(self) -> bool
+        ensures value { result ≡ offers self.kind self.number }
+    {
+        Attribute::of(self.number).is_some_and(|found| found.offers(self.kind))
+    }
+
+    // How many words the command moves: a get and a set as many as the attribute has, a run none.
+    pub fn size(self) -> usize
+        ensures value { result ≡ moved self.kind self.number }
+        ensures bound { result ≤ 512 }
+    {
+        match self.kind {
+            Kind::Get | Kind::Set => size_of(self.number),
+            Kind::Run => 0,
+        }
+    }
+
     // The command word of a command, or nothing if there is no such attribute.
     pub fn word(self) -> Option<u16>
         ensures value { result ≡ word_of self }
