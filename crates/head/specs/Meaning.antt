@@ -1,7 +1,7 @@
 -- The camera's state that a head stands for.
-use Rattle.std.specs.Prelude.{ℕ, zero, suc, ◌<◌, List, take, replicate, Some, None, Option, slice_index, slice_index_or, refl}
+use Rattle.std.specs.Prelude.{ℕ, cond, zero, suc, ◌<◌, List, take, replicate, Some, None, Option, slice_index, slice_index_or, refl}
 use Rattle.std.proofs.Common.{lit<}
-use Rattle.camera.specs.Attributes.{size_of}
+use Rattle.camera.specs.Attributes.{is_saved, size_of}
 use Rattle.camera.specs.Execution.{only_saved}
 use Rattle.camera.specs.State.{CameraState, Registers, Words}
 use Rattle.head.specs.declared.inner.Inner.{Inner}
@@ -21,6 +21,10 @@ blank = record { words = replicate 512 0; full = (refl, zeros_below 512) }
 -- the words of each attribute in a table of records
 unfoldable pub words_in : List Record → Words
 words_in records = λ number. take (size_of number) (slice_index_or records number blank).words
+
+-- the record of a number after a restore: the saved one if the user defaults save that attribute, else its own
+abbrev pub after_restore : List Record → List Record → ℕ → Record
+after_restore saved own number = cond (is_saved number) (slice_index_or saved number blank) (slice_index_or own number blank)
 
 -- the user defaults, of which only the saved attributes count
 abbrev pub saved_in : Option Table → Option Words
