@@ -1,5 +1,6 @@
 -- One record changed, and the saved records put back, as the words of the attributes see it.
-use Rattle.std.proofs.Common.{◌≡◌, ℕ, ◌+◌, ◌<◌, ◌≤◌, Bool, true, false, cond, eqb, leb, ◌≢◌, List, [], length, get_or, take, drop, set, None, sym, refl, ap, ◌∙◌, arith, below_more}
+use Rattle.std.proofs.Common.{◌≡◌, ℕ, zero, suc, ◌+◌, ◌<◌, ◌≤◌, Bool, true, false, cond, eqb, leb, ◌≢◌, List, [], ◌∷◌, length, get_or, take, drop, set, None, sym, refl, ap, ◌∙◌, arith, below_more}
+use Rattle.words.specs.Words.{Words}
 use mathlib.Core.Path.{fun_ext}
 use Rattle.std.proofs.lemmas.List.{get_or_read, get_or-set_same, get_or-set_other, length-set, take_at}
 use Rattle.std.proofs.lemmas.Option.{slice_get_past}
@@ -23,37 +24,29 @@ saved_past : (k : ℕ) → 20 ≤ k → is_saved k ≡ false
 unfolding attribute_at
 saved_past k h = rw (past k h, is_saved)
 
--- One record exchanged exchanges the words of one attribute.
-pub one_record : (records : List Record) (n : ℕ) (r : Record) → n < length records →
+-- One record exchanged, or none past the table, exchanges the words of one attribute.
+pub set_words : (records : List Record) (n : ℕ) (r : Record) → length records ≡ 20 →
     words_in (set records n r) ≡ with_one n (take (size_of n) r.words) (words_in records)
 unfolding words_in
-one_record records n r short = fun_ext (λ k. go k (eqb k n) refl)
+set_words records n r full = fun_ext (λ k. go k (eqb k n) refl)
   where
+    own : (b : Bool) → leb 20 n ≡ b → take (size_of n) (get_or (set records n r) n blank).words ≡ take (size_of n) r.words
+    own true e =
+        let none : size_of n ≡ 0 = size_past n (grind (arith, e)) in
+        ap (λ m. take m (get_or (set records n r) n blank).words) none ∙ sym (ap (λ m. take m r.words) none)
+    own false e =
+        let short : n < length records = grind (arith, e, full) in
+        ap (λ x. take (size_of n) x.words) (get_or-set_same records n r blank short)
+
     go : (k : ℕ) (b : Bool) → eqb k n ≡ b → take (size_of k) (get_or (set records n r) k blank).words ≡ with_one n (take (size_of n) r.words) (words_in records) k
     go k true e =
         let same : k ≡ n = grind (arith, e) in
-        ap (λ j. take (size_of j) (get_or (set records n r) j blank).words) same
-        ∙ ap (λ x. take (size_of n) x.words) (get_or-set_same records n r blank short)
+        ap (λ j. take (size_of j) (get_or (set records n r) j blank).words) same ∙ own (leb 20 n) refl
         ∙ sym (ap (with_one n (take (size_of n) r.words) (words_in records)) same ∙ with_one_same n (take (size_of n) r.words) (words_in records))
     go k false e =
         let other : k ≢ n = λ same. grind (arith, e) in
         ap (λ x. take (size_of k) x.words) (get_or-set_other records n k r blank other)
         ∙ sym (with_one_other n (take (size_of n) r.words) (words_in records) k e)
-
--- Past the table nothing changes.
-pub no_record : (records : List Record) (n : ℕ) (r : Record) → 20 ≤ n → words_in records ≡ with_one n (take (size_of n) r.words) (words_in records)
-unfolding words_in
-no_record records n r h = fun_ext (λ k. go k (eqb k n) refl)
-  where
-    none : (ws : List ℕ) → take (size_of n) ws ≡ []
-    none ws = ap (λ m. take m ws) (size_past n h)
-
-    go : (k : ℕ) (b : Bool) → eqb k n ≡ b → words_in records k ≡ with_one n (take (size_of n) r.words) (words_in records) k
-    go k true e =
-        let same : k ≡ n = grind (arith, e) in
-        ap (words_in records) same ∙ none (get_or records n blank).words ∙ sym (none r.words)
-        ∙ sym (ap (with_one n (take (size_of n) r.words) (words_in records)) same ∙ with_one_same n (take (size_of n) r.words) (words_in records))
-    go k false e = sym (with_one_other n (take (size_of n) r.words) (words_in records) k e)
 
 -- The records of a table after a restore have the saved words beside the others.
 pub merged_words : (records saved old : List Record) → ((k : ℕ) → k < 20 → get_or records k blank ≡ after_restore saved old k) →

@@ -3,11 +3,11 @@ ghost use Rattle.camera.specs.Registers.{register_at};
 ghost use Rattle.camera.specs.Steps.{access, after_read, after_write, ended, held, mode, stored, word_read};
 ghost use Rattle.head.specs.Accesses.{reached};
 ghost use Rattle.head.specs.Meaning.{head_state};
-ghost use Rattle.std.specs.Prelude.{◌≡◌, length, slice_set};
+ghost use Rattle.std.specs.Prelude.{◌≡◌};
 ghost use Rattle.head.specs.Filling.{saved_filled, words_filled};
-ghost use Rattle.words.specs.Words.{Words};
 
 use crate::memory::Head;
+use crate::slices::put;
 use camera::{Bus, Fault, Mode, Register, decode, word_at};
 use words::code_byte;
 
@@ -16,17 +16,6 @@ const BUSY_STATUS: u16 = 0x0007;
 
 // What an idle status word has beside the response code.
 const IDLE_STATUS: u16 = 6;
-
-// Exchanges the word at a place, or nothing past the end.
-fn put_word(words: &mut [u16], place: usize, word: u16)
-    ensures after { words.new ≡ slice_set words.old place word }
-    ensures full { Words (length words.old) words.new }
-{
-    // A slice's `get_mut` promises nothing of what the slice holds afterwards.
-    if place < words.len() {
-        words[place] = word;
-    }
-}
 
 impl Head {
     // The mode that the camera is in.
@@ -98,8 +87,8 @@ impl Head {
             Register::Power | Register::Status => {}
             Register::Command => self.execute(word),
             Register::Length => self.inner.size = word,
-            Register::Data(place) => put_word(&mut self.inner.data, place as usize, word),
-            Register::Block(place) => put_word(&mut self.inner.block, place as usize, word),
+            Register::Data(place) => put(&mut self.inner.data, place as usize, word),
+            Register::Block(place) => put(&mut self.inner.block, place as usize, word),
         }
     }
 

@@ -36,16 +36,6 @@ fn words_moved(command: Command) -> usize
     }
 }
 
-// Lays words over the front of others.
-pub(crate) fn lay(target: &mut [u16], words: &[u16])
-    requires { length words.now ≤ length target.old }
-    ensures after { target.new ≡ over words.now target.old }
-    ensures full { Words (length target.old) target.new }
-{
-    let size = words.len();
-    target[0..size].copy_from_slice(words);
-}
-
 impl Head {
     // A command word is taken: the count rises, and the next number of busy polls begins.
     fn take_command(&mut self)

@@ -9,6 +9,7 @@ mod memory;
 mod picture;
 mod questions;
 mod settings;
+mod slices;
 mod table;
 
 pub use memory::Head;

@@ -6,9 +6,9 @@ ghost use Rattle.camera.specs.Registers.{over};
 ghost use Rattle.camera.specs.State.{saved_flag, shown};
 ghost use Rattle.head.specs.Meaning.{after_restore, blank, head_state, words_in};
 
-use crate::execution::lay;
 use crate::inner::{Record, Table};
 use crate::memory::Head;
+use crate::slices::{lay, put};
 use camera::{Bank, STATUS, USER_DEFAULTS, is_saved, size_of};
 
 impl Record {
@@ -51,14 +51,11 @@ impl Table {
     }
 
     // Exchanges the record of a number, if there is one.
-    #[tactic(auto, using(crate::proofs::Tables::one_record, crate::proofs::Tables::no_record))]
+    #[tactic(auto, using(crate::proofs::Tables::set_words))]
     pub(crate) fn set_record(&mut self, number: u16, other: Record)
         ensures after { words_in self.new.records ≡ with_one number (take (size_of number) other.words) (words_in self.old.records) }
     {
-        let place = number as usize;
-        if place < self.records.len() {
-            self.records[place] = other;
-        }
+        put(&mut self.records, number as usize, other);
     }
 
     // The table with the saved attributes of another one in the place of its own.
