@@ -4,3 +4,4 @@ pub mod Questions
 pub mod Pictures
 pub mod Filling
 pub mod Accesses
+pub mod Rejections

@@ -8,6 +8,7 @@ mod making;
 mod memory;
 mod picture;
 mod questions;
+mod rejection;
 mod settings;
 mod slices;
 mod table;

@@ -1,7 +1,6 @@
-// What the head does with slices, and the library's slices say nothing of or want the same length for.
+// Writing into slices: what the library's slices have no method for.
 ghost use Rattle.std.specs.Prelude.{◌≡◌, ◌≤◌, length, slice_set};
 ghost use Rattle.camera.specs.Registers.{over};
-ghost use Rattle.words.specs.Words.{Words};
 
 // Exchanges the item at a place, and nothing past the end.
 pub(crate) fn put<T: Copy>(items: &mut [T], place: usize, item: T)
@@ -17,7 +16,6 @@ pub(crate) fn put<T: Copy>(items: &mut [T], place: usize, item: T)
 pub(crate) fn lay(target: &mut [u16], words: &[u16])
     requires { length words.now ≤ length target.old }
     ensures after { target.new ≡ over words.now target.old }
-    ensures full { Words (length target.old) target.new }
 {
     target[..words.len()].copy_from_slice(words);
 }
