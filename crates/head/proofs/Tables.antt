@@ -1,5 +1,6 @@
 -- One record changed, and the saved records put back, as the words of the attributes see it.
-use Rattle.std.proofs.Common.{◌≡◌, ℕ, ◌+◌, ◌<◌, ◌≤◌, Bool, true, false, cond, eqb, leb, ◌≢◌, List, [], length, get_or, take, drop, set, None, sym, refl, ap, ◌∙◌, arith, below_more}
+use Rattle.std.proofs.Common.{◌≡◌, ℕ, zero, suc, ◌+◌, ◌<◌, ◌≤◌, Bool, true, false, cond, eqb, leb, ◌≢◌, List, [], ◌∷◌, length, get_or, take, drop, set, None, sym, refl, ap, ◌∙◌, arith, below_more}
+use Rattle.words.specs.Words.{Words}
 use mathlib.Core.Path.{fun_ext}
 use Rattle.std.proofs.lemmas.List.{get_or_read, get_or-set_same, get_or-set_other, length-set, take_at}
 use Rattle.std.proofs.lemmas.Option.{slice_get_past}
@@ -8,7 +9,7 @@ use Rattle.camera.specs.Execution.{only_saved, put_back, with_one}
 use Rattle.camera.specs.Registers.{over}
 use Rattle.camera.proofs.Changes.{with_one_same, with_one_other}
 use Rattle.head.specs.declared.inner.Record.{Record}
-use Rattle.head.specs.Meaning.{blank, words_in}
+use Rattle.head.specs.Meaning.{after_restore, blank, words_in}
 
 -- past the table there is no attribute, and so there are no words
 past : (k : ℕ) → 20 ≤ k → attribute_at k ≡ None
@@ -23,43 +24,32 @@ saved_past : (k : ℕ) → 20 ≤ k → is_saved k ≡ false
 unfolding attribute_at
 saved_past k h = rw (past k h, is_saved)
 
-pub one_record : (records : List Record) (n : ℕ) (r : Record) (ws old : List ℕ) → n < length records → r.words ≡ over ws old → length ws ≡ size_of n →
-    words_in (set records n r) ≡ with_one n ws (words_in records)
+-- One record exchanged, or none past the table, exchanges the words of one attribute.
+pub set_words : (records : List Record) (n : ℕ) (r : Record) → length records ≡ 20 →
+    words_in (set records n r) ≡ with_one n (take (size_of n) r.words) (words_in records)
 unfolding words_in
-one_record records n r ws old short is size = fun_ext (λ k. go k (eqb k n) refl)
+set_words records n r full = fun_ext (λ k. go k (eqb k n) refl)
   where
-    go : (k : ℕ) (b : Bool) → eqb k n ≡ b → take (size_of k) (get_or (set records n r) k blank).words ≡ with_one n ws (words_in records) k
+    own : (b : Bool) → leb 20 n ≡ b → take (size_of n) (get_or (set records n r) n blank).words ≡ take (size_of n) r.words
+    own true e =
+        let none : size_of n ≡ 0 = size_past n (grind (arith, e)) in
+        ap (λ m. take m (get_or (set records n r) n blank).words) none ∙ sym (ap (λ m. take m r.words) none)
+    own false e =
+        let short : n < length records = grind (arith, e, full) in
+        ap (λ x. take (size_of n) x.words) (get_or-set_same records n r blank short)
+
+    go : (k : ℕ) (b : Bool) → eqb k n ≡ b → take (size_of k) (get_or (set records n r) k blank).words ≡ with_one n (take (size_of n) r.words) (words_in records) k
     go k true e =
         let same : k ≡ n = grind (arith, e) in
-        ap (λ j. take (size_of j) (get_or (set records n r) j blank).words) same
-        ∙ ap (λ x. take (size_of n) x.words) (get_or-set_same records n r blank short)
-        ∙ ap (take (size_of n)) is ∙ take_at ws (drop (length ws) old) (size_of n) size
-        ∙ sym (ap (with_one n ws (words_in records)) same ∙ with_one_same n ws (words_in records))
+        ap (λ j. take (size_of j) (get_or (set records n r) j blank).words) same ∙ own (leb 20 n) refl
+        ∙ sym (ap (with_one n (take (size_of n) r.words) (words_in records)) same ∙ with_one_same n (take (size_of n) r.words) (words_in records))
     go k false e =
         let other : k ≢ n = λ same. grind (arith, e) in
         ap (λ x. take (size_of k) x.words) (get_or-set_other records n k r blank other)
-        ∙ sym (with_one_other n ws (words_in records) k e)
+        ∙ sym (with_one_other n (take (size_of n) r.words) (words_in records) k e)
 
--- Past the table nothing changes.
-pub no_record : (records : List Record) (n : ℕ) (bank : List ℕ) → 20 ≤ n → words_in records ≡ with_one n (take (size_of n) bank) (words_in records)
-unfolding words_in
-no_record records n bank h = fun_ext (λ k. go k (eqb k n) refl)
-  where
-    none : (ws : List ℕ) → take (size_of n) ws ≡ []
-    none ws = ap (λ m. take m ws) (size_past n h)
-
-    go : (k : ℕ) (b : Bool) → eqb k n ≡ b → words_in records k ≡ with_one n (take (size_of n) bank) (words_in records) k
-    go k true e =
-        let same : k ≡ n = grind (arith, e) in
-        ap (words_in records) same ∙ none (get_or records n blank).words ∙ sym (none bank)
-        ∙ sym (ap (with_one n (take (size_of n) bank) (words_in records)) same ∙ with_one_same n (take (size_of n) bank) (words_in records))
-    go k false e = sym (with_one_other n (take (size_of n) bank) (words_in records) k e)
-
--- The saved records of a table beside the others of another.
-abbrev pub Merged : List Record → List Record → List Record → ℕ → Type 0
-Merged records saved old k = (get_or records k blank).words ≡ cond (is_saved k) (get_or saved k blank).words (get_or old k blank).words
-
-pub merged_words : (records saved old : List Record) → ((k : ℕ) → k < 20 → Merged records saved old k) →
+-- The records of a table after a restore have the saved words beside the others.
+pub merged_words : (records saved old : List Record) → ((k : ℕ) → k < 20 → get_or records k blank ≡ after_restore saved old k) →
     words_in records ≡ put_back (only_saved (words_in saved)) (words_in old)
 unfolding words_in put_back only_saved
 merged_words records saved old all = fun_ext (λ k. go k (leb 20 k) refl)
@@ -70,38 +60,9 @@ merged_words records saved old all = fun_ext (λ k. go k (leb 20 k) refl)
         ap (λ m. take m (get_or records k blank).words) (size_past k far)
         ∙ sym (ap (λ m. take m (get_or old k blank).words) (size_past k far))
         ∙ sym (ap (λ b. cond b (cond b (words_in saved k) []) (words_in old k)) (saved_past k far))
-    go k false e = split (is_saved k) (ap (take (size_of k)) (all k (grind (arith, e))))
+    go k false e = split (is_saved k) (ap (λ r. take (size_of k) r.words) (all k (grind (arith, e))))
       where
-        split : (b : Bool) → take (size_of k) (get_or records k blank).words ≡ take (size_of k) (cond b (get_or saved k blank).words (get_or old k blank).words) →
+        split : (b : Bool) → take (size_of k) (get_or records k blank).words ≡ take (size_of k) (cond b (get_or saved k blank) (get_or old k blank)).words →
             take (size_of k) (get_or records k blank).words ≡ cond b (cond b (take (size_of k) (get_or saved k blank).words) []) (take (size_of k) (get_or old k blank).words)
         split true e = e
         split false e = e
-
--- One turn of putting back: the record of a number that is saved is replaced, that of another stays.
-pub record Turn (records saved old : List Record) (n : ℕ) : Type 0 where
-  pub size : length records ≡ 20
-  pub below : (k : ℕ) → k < n → Merged records saved old k
-  pub above : (k : ℕ) → n ≤ k → (get_or records k blank).words ≡ (get_or old k blank).words
-
-pub turn_saved : (records saved old : List Record) (n : ℕ) (x : Record) → Turn records saved old n → n < 20 → length saved ≡ 20 →
-    is_saved n ≡ true → x ≡ get_or saved n x → Turn (set records n x) saved old (n + 1)
-turn_saved records saved old n x t short full is read =
-    let here : n < length records = omega (arith, t.size) in
-    let there : n < length saved = omega arith in
-    record {
-      size = length-set records n x ∙ t.size;
-      below = below_more (Merged (set records n x) saved old) n
-          (λ k h. let other : k ≢ n = omega arith in ap (λ r. r.words) (get_or-set_other records n k x blank other) ∙ t.below k h)
-          (ap (λ r. r.words) (get_or-set_same records n x blank here ∙ get_or_read saved n x there read blank)
-          ∙ sym (ap (λ b. cond b (get_or saved n blank).words (get_or old n blank).words) is));
-      above = λ k h. let other : k ≢ n = omega arith in ap (λ r. r.words) (get_or-set_other records n k x blank other) ∙ t.above k (omega arith);
-    }
-
-pub turn_other : (records saved old : List Record) (n : ℕ) → Turn records saved old n → is_saved n ≡ false → Turn records saved old (n + 1)
-turn_other records saved old n t is =
-    record {
-      size = t.size;
-      below = below_more (Merged records saved old) n t.below
-          (t.above n (omega arith) ∙ sym (ap (λ b. cond b (get_or saved n blank).words (get_or old n blank).words) is));
-      above = λ k h. t.above k (omega arith);
-    }

@@ -1,11 +1,13 @@
 // One access to a head: modes, marks, and the registers.
-ghost use Rattle.camera.specs.Registers.{Exists};
-ghost use Rattle.camera.specs.Steps.{after_read, after_write, ended, held, marked, mode, next_ack, stored, unless_unacknowledged, word_read};
+ghost use Rattle.camera.specs.Registers.{register_at};
+ghost use Rattle.camera.specs.Steps.{access, after_read, after_write, ended, held, mode, stored, word_read};
+ghost use Rattle.head.specs.Accesses.{reached};
 ghost use Rattle.head.specs.Meaning.{head_state};
-ghost use Rattle.std.specs.Prelude.{◌≡◌, Ok, Err};
+ghost use Rattle.std.specs.Prelude.{◌≡◌};
 ghost use Rattle.head.specs.Filling.{saved_filled, words_filled};
 
 use crate::memory::Head;
+use crate::slices::put;
 use camera::{Bus, Fault, Mode, Register, decode, word_at};
 use words::code_byte;
 
@@ -31,13 +33,15 @@ impl Head {
         }
     }
 
-    // Uses up the next acknowledgement mark.
-    fn acknowledge(&mut self, address: u16) -> Result<(), Fault>
-        ensures outcome { ended result (head_state self.new) ≡ unless_unacknowledged (next_ack (head_state self.old).acks) address (marked (head_state self.old)) (ended (Ok tt) (marked (head_state self.old))) }
+    // The register that an access meets: there is one at the address, and the next mark, which is used up, acknowledges
+    // the access.
+    fn reach(&mut self, address: u16) -> Result<Register, Fault>
+        ensures outcome { ended result (head_state self.new) ≡ access (register_at address) address (head_state self.old) reached }
     {
-        match self.acks.pop() {
+        let register = decode(address)?;
+        match self.acks.pop_front() {
             Some(false) => Err(Fault::NotAcknowledged { address }),
-            _ => Ok(()),
+            _ => Ok(register),
         }
     }
 
@@ -75,22 +79,21 @@ impl Head {
     }
 
     // What a write to a register of an idle camera does.
+    #[tactic(auto, unfolding(camera::specs::Execution::commanded))]
     fn store(&mut self, register: Register, word: u16)
-        requires { Exists register }
         ensures after { head_state self.new ≡ stored register word (head_state self.old) }
     {
         match register {
             Register::Power | Register::Status => {}
             Register::Command => self.execute(word),
             Register::Length => self.inner.size = word,
-            Register::Data(place) => self.inner.data[place as usize] = word,
-            Register::Block(place) => self.inner.block[place as usize] = word,
+            Register::Data(place) => put(&mut self.inner.data, place as usize, word),
+            Register::Block(place) => put(&mut self.inner.block, place as usize, word),
         }
     }
 
     // An acknowledged write.
     fn write_register(&mut self, register: Register, word: u16)
-        requires { Exists register }
         ensures after { head_state self.new ≡ after_write (mode (head_state self.old)) register word (head_state self.old) }
     {
         match self.mode() {
@@ -116,14 +119,12 @@ impl Bus for Head {
         } };
 
     fn read(&mut self, address: u16) -> Result<u16, Fault> {
-        let register = decode(address)?;
-        self.acknowledge(address)?;
+        let register = self.reach(address)?;
         Ok(self.read_register(register))
     }
 
     fn write(&mut self, address: u16, word: u16) -> Result<(), Fault> {
-        let register = decode(address)?;
-        self.acknowledge(address)?;
+        let register = self.reach(address)?;
         self.write_register(register, word);
         Ok(())
     }

@@ -1,50 +1,14 @@
 // Carrying out commands.
-ghost use Rattle.std.specs.Prelude.{◌≡◌, ◌≤◌, length, Some};
+ghost use Rattle.std.specs.Prelude.{◌≡◌, ◌≤◌, length, pos};
 ghost use Rattle.camera.specs.Attributes.{size_of};
-ghost use Rattle.camera.specs.Execution.{carried_out, executed, lawful, moved, run_done, standing, taken, verdict};
-ghost use Rattle.camera.specs.Registers.{over};
+ghost use Rattle.camera.specs.Execution.{answered, carried_out, executed, lawful, run_done, standing, taken, verdict};
 ghost use Rattle.camera.specs.Commands.{command_of};
 ghost use Rattle.head.specs.Meaning.{head_state, registers_in};
-ghost use Rattle.words.specs.Words.{Words};
+ghost use Rattle.head.specs.Rejections.{response, verdict_of};
 
 use crate::memory::Head;
-use camera::{Attribute, Command, Kind, RESTORE, USER_DEFAULTS, size_of};
-
-// The response codes of commands that are not carried out.
-const WRONG_SIZE: i8 = -6;
-
-const NO_COMMAND: i8 = -7;
-
-const NOT_OFFERED: i8 = -8;
-
-const OUT_OF_LIMITS: i8 = -9;
-
-const ALREADY_SAVED: i8 = -15;
-
-const NOTHING_SAVED: i8 = -18;
-
-// How many attributes pass through the data registers: those of up to so many words.
-pub(crate) const DATA_WORDS: usize = 16;
-
-// How many words a command moves.
-fn words_moved(command: Command) -> usize
-    ensures value { result ≡ moved command.kind command.number }
-{
-    match command.kind {
-        Kind::Get | Kind::Set => size_of(command.number),
-        Kind::Run => 0,
-    }
-}
-
-// Lays words over the front of others.
-pub(crate) fn lay(target: &mut [u16], words: &[u16])
-    requires { length words.now ≤ length target.old }
-    ensures after { target.new ≡ over words.now target.old }
-    ensures full { Words (length target.old) target.new }
-{
-    let size = words.len();
-    target[0..size].copy_from_slice(words);
-}
+use crate::rejection::Rejection;
+use camera::{Attribute, Bank, Command, Kind, RESTORE, USER_DEFAULTS, size_of};
 
 impl Head {
     // A command word is taken: the count rises, and the next number of busy polls begins.
@@ -52,7 +16,7 @@ impl Head {
         ensures after { head_state self.new ≡ taken (head_state self.old) }
     {
         self.inner.count = self.inner.count.wrapping_add(1);
-        self.inner.busy = self.coming.pop().unwrap_or(0);
+        self.inner.busy = self.coming.pop_front().unwrap_or(0);
     }
 
     // The words of an attribute that stand in the registers.
@@ -62,10 +26,9 @@ impl Head {
         ensures bound { length result.now ≤ 512 }
     {
         let size = size_of(number);
-        if size <= DATA_WORDS {
-            &self.inner.data[0..size]
-        } else {
-            &self.inner.block[0..size]
+        match Bank::of(number) {
+            Bank::Data => &self.inner.data[..size],
+            Bank::Block => &self.inner.block[..size],
         }
     }
 
@@ -73,33 +36,31 @@ impl Head {
     fn is_lawful(&self, command: Command) -> bool
         ensures value { result ≡ lawful command.kind command.number (registers_in self.now.inner) }
     {
-        match (command.kind, Attribute::of(command.number)) {
-            (Kind::Set, Some(found)) => found.limits.allow(self.standing(command.number)),
-            (Kind::Set, None) => false,
-            _ => true,
+        match command.kind {
+            Kind::Get | Kind::Run => true,
+            Kind::Set => Attribute::of(command.number).is_some_and(|found| found
+                .limits
+                .allow(self.standing(command.number))),
         }
     }
 
-    // The response code of a command that is not carried out.
-    fn refusal(&self, command: Command) -> Option<i8>
-        ensures value { result ≡ verdict command.kind command.number (registers_in self.now.inner) (head_state self.now).interpreter }
+    // Whether a command may be carried out: the first test that fails gives the rejection.
+    fn check(&self, command: Command) -> Result<(), Rejection>
+        ensures value { verdict_of result ≡ verdict command.kind command.number (registers_in self.now.inner) (head_state self.now).interpreter }
     {
-        let Some(found) = Attribute::of(command.number) else {
-            return Some(NOT_OFFERED);
-        };
-        if !found.offers(command.kind) {
-            return Some(NOT_OFFERED);
+        if !command.is_offered() {
+            return Err(Rejection::NotOffered);
         }
-        if usize::from(self.inner.size) != words_moved(command) {
-            return Some(WRONG_SIZE);
+        if usize::from(self.inner.size) != command.size() {
+            return Err(Rejection::WrongSize);
         }
         if !self.is_lawful(command) {
-            return Some(OUT_OF_LIMITS);
+            return Err(Rejection::OutOfLimits);
         }
-        match (command.kind, command.number, self.inner.saved) {
-            (Kind::Run, USER_DEFAULTS, Some(_)) => Some(ALREADY_SAVED),
-            (Kind::Run, RESTORE, None) => Some(NOTHING_SAVED),
-            _ => None,
+        match (command.kind, command.number, self.inner.saved.is_some()) {
+            (Kind::Run, USER_DEFAULTS, true) => Err(Rejection::AlreadySaved),
+            (Kind::Run, RESTORE, false) => Err(Rejection::NothingSaved),
+            _ => Ok(()),
         }
     }
 
@@ -114,9 +75,10 @@ impl Head {
         }
     }
 
-    // Carries out a command that is not refused.
+    // Carries out a command that is not rejected, but for its response code of 0, which may also come before.
+    #[tactic(auto, unfolding(camera::specs::State::shown))]
     fn carry_out(&mut self, command: Command)
-        ensures after { head_state self.new ≡ carried_out command.kind command.number (head_state self.old) }
+        ensures after { answered (pos 0) (head_state self.new) ≡ carried_out command.kind command.number (answered (pos 0) (head_state self.old)) }
     {
         match command.kind {
             Kind::Get => self.get(command.number),
@@ -125,17 +87,14 @@ impl Head {
         }
     }
 
-    // Judges a command, and carries it out if it is not refused.
-    fn judge(&mut self, command: Command)
-        ensures after { head_state self.new ≡ executed (Some command) (head_state self.old) }
+    // Judges a command word, and carries it out if it is not refused.
+    fn judge(&mut self, word: u16) -> Result<(), Rejection>
+        ensures after { answered (response result) (head_state self.new) ≡ executed (command_of word) (head_state self.old) }
     {
-        match self.refusal(command) {
-            Some(code) => self.inner.code = code,
-            None => {
-                self.inner.code = 0;
-                self.carry_out(command);
-            }
-        }
+        let command = Command::of(word).ok_or(Rejection::NoCommand)?;
+        self.check(command)?;
+        self.carry_out(command);
+        Ok(())
     }
 
     // A word in the command register.
@@ -143,9 +102,9 @@ impl Head {
         ensures after { head_state self.new ≡ executed (command_of word) (taken (head_state self.old)) }
     {
         self.take_command();
-        match Command::of(word) {
-            Some(command) => self.judge(command),
-            None => self.inner.code = NO_COMMAND,
-        }
+        self.inner.code = match self.judge(word) {
+            Ok(()) => 0,
+            Err(rejection) => rejection as i8,
+        };
     }
 }

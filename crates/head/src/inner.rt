@@ -3,7 +3,8 @@ ghost use Rattle.std.specs.Prelude.{◌≡◌, ◌<◌, length};
 ghost use Rattle.words.specs.Words.{Words};
 ghost use Rattle.std.specs.Int.Signed.{mag};
 
-// A record of the table of attributes: the attribute's words, in memory for as many as the largest one has.
+// A record of the table of attributes: the attribute's words, in memory for as many as the largest one has. The memory
+// is fixed, and no `Vec`, so that no set and no save can fail for want of memory, for which a bus has no answer.
 #[derive(Clone, Copy)]
 pub(crate) struct Record {
     pub(crate) words: [u16; 512],

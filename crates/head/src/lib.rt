@@ -8,8 +8,9 @@ mod making;
 mod memory;
 mod picture;
 mod questions;
-mod queue;
+mod rejection;
 mod settings;
+mod slices;
 mod table;
 
 pub use memory::Head;

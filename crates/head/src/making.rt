@@ -1,33 +1,33 @@
 // Making a head from its settings.
-ghost use Rattle.std.specs.Prelude.{◌≡◌, ℕ, ◌<◌, true, false, length, take, Ok, Err, slice_index_or};
-ghost use Rattle.camera.specs.Attributes.{size_of, start_words};
+ghost use Rattle.std.specs.Prelude.{◌≡◌, ◌<◌, true, false, take, Ok, Err};
+ghost use Rattle.camera.specs.Attributes.{size_of};
 ghost use Rattle.head.specs.Making.{lawful_settings, made_state, made_words};
-ghost use Rattle.head.specs.Meaning.{blank, head_state, words_in};
+ghost use Rattle.head.specs.Meaning.{head_state, words_in};
 
 use crate::inner::{Inner, Record, Table};
 use crate::memory::Head;
-use crate::queue::Queue;
 use crate::settings::{BadSettings, HeadSettings};
 use camera::{Attribute, FPA_TEMPERATURE, SERIAL_NUMBER};
+use std::collections::VecDeque;
 use words::WordCodec;
 
-// The record of an attribute with its start words.
-fn start_record(number: u16) -> Record
-    ensures value { take (size_of number) result.words ≡ start_words number }
+// The record of an attribute of a new head.
+#[tactic(auto, unfolding(crate::specs::Making::made_words, camera::specs::Attributes::start_words, camera::specs::Attributes::attribute_at))]
+fn start_record(number: u16, serial: u64, fpa: u16) -> Record
+    ensures value { take (size_of number) result.words ≡ made_words serial fpa number }
 {
-    match Attribute::of(number) {
-        Some(found) => Record::blank().with(&found.start),
-        None => Record::blank(),
-    }
-}
-
-// Gives each record of a table its start words.
-fn start_all(records: &mut [Record])
-    requires { length records.old ≡ 20 }
-    ensures after { (k : ℕ) → k < 20 → take (size_of k) (slice_index_or records.new k blank).words ≡ start_words k }
-{
-    for number in 0..20u16 {
-        records[number as usize] = start_record(number);
+    let blank = Record::blank();
+    match number {
+        SERIAL_NUMBER => {
+            let mut serial_words = [0; 4];
+            let _ = serial.put(&mut serial_words);
+            blank.with(&serial_words)
+        }
+        FPA_TEMPERATURE => blank.with(&[fpa]),
+        _ => match Attribute::of(number) {
+            Some(found) => blank.with(&found.start),
+            None => blank,
+        },
     }
 }
 
@@ -36,13 +36,13 @@ impl Table {
     fn start(serial: u64, fpa: u16) -> Table
         ensures value { words_in result.records ≡ made_words serial fpa }
     {
-        let mut records = [Record::blank(); 20];
-        start_all(&mut records);
-        let mut serial_words = [0; 4];
-        let _ = serial.put(&mut serial_words);
-        records[FPA_TEMPERATURE as usize] = Record::blank().with(&[fpa]);
-        records[SERIAL_NUMBER as usize] = Record::blank().with(&serial_words);
-        Table { records }
+        Table {
+            records: std::array::from_fn(
+                |place|
+                    requires { place < 20 }
+                { start_record(place as u16, serial, fpa) },
+            ),
+        }
     }
 }
 
@@ -75,8 +75,8 @@ impl Head {
         };
         Ok(Head {
             inner,
-            coming: Queue::new(busy),
-            acks: Queue::new(acks),
+            coming: VecDeque::from(busy),
+            acks: VecDeque::from(acks),
         })
     }
 }

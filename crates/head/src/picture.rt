@@ -11,11 +11,12 @@ use frame::{FrameRefusal, frame_mean};
 
 impl Head {
     // Gives attribute 15 a mean.
+    #[tactic(auto, unfolding(camera::specs::Attributes::attribute_at))]
     fn set_mean(&mut self, mean: u16)
         ensures after { head_state self.new ≡ with_mean mean (head_state self.old) }
     {
-        let record = self.record(FRAME_MEAN).with(&[mean]);
-        self.inner.table.records[FRAME_MEAN as usize] = record;
+        let record = self.inner.table.record(FRAME_MEAN).with(&[mean]);
+        self.inner.table.set_record(FRAME_MEAN, record);
     }
 
     // Gives the head a frame. Attribute 15 becomes its mean, and nothing else changes; a frame of another size or with a
@@ -23,12 +24,8 @@ impl Head {
     pub fn load_frame(&mut self, pixels: &[u16]) -> Result<(), FrameRefusal>
         ensures outcome { ended result (head_state self.new) ≡ framed (mean_of pixels.now) (head_state self.old) }
     {
-        match frame_mean(pixels) {
-            Ok(mean) => {
-                self.set_mean(mean);
-                Ok(())
-            }
-            Err(refusal) => Err(refusal),
-        }
+        let mean = frame_mean(pixels)?;
+        self.set_mean(mean);
+        Ok(())
     }
 }

@@ -6,7 +6,6 @@ ghost use Rattle.head.specs.Questions.{report_of};
 ghost use Rattle.std.specs.Prelude.{◌≡◌, IfOk};
 
 use crate::memory::Head;
-use camera::size_of;
 use std::alloc::{AllocError, Global};
 
 // The camera's state as plain values.
@@ -47,8 +46,6 @@ impl Head {
     pub fn attribute(&self, heap: Global, number: u16) -> Result<Vec<u16>, AllocError>
         ensures words { IfOk result (λ v. v.items ≡ shown (head_state self.now).interpreter number) }
     {
-        let size = size_of(number);
-        let shown = self.shown(number);
-        Vec::from_slice(heap, &shown.words[0..size])
+        Vec::from_slice(heap, self.shown(number).front(number))
     }
 }

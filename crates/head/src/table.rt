@@ -1,15 +1,15 @@
 // The head's table of attributes: one record is looked at or changed, all are saved and restored.
-ghost use Rattle.std.specs.Prelude.{◌≡◌, ◌≤◌, length, take, slice_index_or};
+ghost use Rattle.std.specs.Prelude.{◌≡◌, ◌<◌, ◌≤◌, length, take, slice_index_or};
 ghost use Rattle.camera.specs.Attributes.{size_of};
-ghost use Rattle.camera.specs.Execution.{get_done, only_saved, put_back, restore_done, save_done, set_done};
+ghost use Rattle.camera.specs.Execution.{get_done, only_saved, put_back, restore_done, save_done, set_done, with_one};
 ghost use Rattle.camera.specs.Registers.{over};
 ghost use Rattle.camera.specs.State.{saved_flag, shown};
-ghost use Rattle.head.specs.Meaning.{blank, head_state, words_in};
+ghost use Rattle.head.specs.Meaning.{after_restore, blank, head_state, words_in};
 
-use crate::execution::{DATA_WORDS, lay};
 use crate::inner::{Record, Table};
 use crate::memory::Head;
-use camera::{STATUS, USER_DEFAULTS, is_saved, size_of};
+use crate::slices::{lay, put};
+use camera::{Bank, STATUS, USER_DEFAULTS, is_saved, size_of};
 
 impl Record {
     // A record of zeros.
@@ -23,62 +23,83 @@ impl Record {
     pub(crate) fn with(self, words: &[u16]) -> Record
         requires { length words.now ≤ 512 }
         ensures value { result.words ≡ over words.now self.words }
+        ensures front { take (length words.now) result.words ≡ words.now }
     {
         let mut all = self.words;
         lay(&mut all, words);
         Record { words: all }
     }
+
+    // The words that the attribute of a number uses.
+    pub(crate) fn front(&self, number: u16) -> &[u16]
+        ensures value { result.now ≡ take (size_of number) self.now.words }
+        ensures size { length result.now ≡ size_of number }
+    {
+        &self.words[..size_of(number)]
+    }
+}
+
+impl Table {
+    // The record of a number, or zeros where there is none.
+    pub(crate) fn record(&self, number: u16) -> Record
+        ensures value { result.words ≡ (slice_index_or self.now.records number blank).words }
+    {
+        self.records
+            .get(number as usize)
+            .copied()
+            .unwrap_or(Record::blank())
+    }
+
+    // Exchanges the record of a number, if there is one.
+    #[tactic(auto, using(crate::proofs::Tables::set_words))]
+    pub(crate) fn set_record(&mut self, number: u16, other: Record)
+        ensures after { words_in self.new.records ≡ with_one number (take (size_of number) other.words) (words_in self.old.records) }
+    {
+        put(&mut self.records, number as usize, other);
+    }
+
+    // The table with the saved attributes of another one in the place of its own.
+    fn with_saved(&self, saved: &Table) -> Table
+        ensures value { words_in result.records ≡ put_back (only_saved (words_in saved.now.records)) (words_in self.now.records) }
+    {
+        let records = std::array::from_fn(
+            |place|
+                requires { place < 20 }
+                ensures { result ≡ after_restore saved.entry.now.records self.entry.now.records place }
+            {
+                if is_saved(place as u16) {
+                    saved.records[place]
+                } else {
+                    self.records[place]
+                }
+            },
+        );
+        Table { records }
+    }
 }
 
 impl Head {
-    // The record of an attribute, or zeros where there is none.
-    pub(crate) fn record(&self, number: u16) -> Record
-        ensures value { result.words ≡ (slice_index_or self.now.inner.table.records number blank).words }
-    {
-        if number < 20 {
-            self.inner.table.records[number as usize]
-        } else {
-            Record::blank()
-        }
-    }
-
-    // Whether something is saved, as a number.
-    fn saved_flag(&self) -> u16
-        ensures value { result ≡ saved_flag (head_state self.now).interpreter.saved }
-    {
-        match self.inner.saved {
-            Some(_) => 1,
-            None => 0,
-        }
-    }
-
     // What an attribute shows, in front of a record.
+    #[tactic(auto, unfolding(camera::specs::State::shown, camera::specs::Attributes::attribute_at, crate::specs::Meaning::words_in))]
     pub(crate) fn shown(&self, number: u16) -> Record
         ensures value { take (size_of number) result.words ≡ shown (head_state self.now).interpreter number }
     {
-        if number == STATUS {
-            return Record::blank().with(&[0, 0, self.inner.count, 0]);
+        match number {
+            STATUS => Record::blank().with(&[0, 0, self.inner.count, 0]),
+            USER_DEFAULTS => Record::blank().with(&[u16::from(self.inner.saved.is_some()), 0]),
+            _ => self.inner.table.record(number),
         }
-        if number == USER_DEFAULTS {
-            return Record::blank().with(&[self.saved_flag(), 0]);
-        }
-        self.record(number)
     }
 
     // Gets an attribute: copies what it shows into the registers.
     pub(crate) fn get(&mut self, number: u16)
         ensures after { head_state self.new ≡ get_done number (head_state self.old) }
     {
-        let size = size_of(number);
         let shown = self.shown(number);
-        if size <= DATA_WORDS {
-            let mut data = self.inner.data;
-            lay(&mut data, &shown.words[0..size]);
-            self.inner.data = data;
-        } else {
-            let mut block = self.inner.block;
-            lay(&mut block, &shown.words[0..size]);
-            self.inner.block = block;
+        let words = shown.front(number);
+        match Bank::of(number) {
+            Bank::Data => lay(&mut self.inner.data, words),
+            Bank::Block => lay(&mut self.inner.block, words),
         }
     }
 
@@ -86,42 +107,23 @@ impl Head {
     pub(crate) fn set(&mut self, number: u16)
         ensures after { head_state self.new ≡ set_done number (head_state self.old) }
     {
-        let record = self.record(number).with(self.standing(number));
-        if number < 20 {
-            self.inner.table.records[number as usize] = record;
-        }
+        let record = self.inner.table.record(number).with(self.standing(number));
+        self.inner.table.set_record(number, record);
     }
 
     // Saves the user defaults.
     pub(crate) fn save(&mut self)
         ensures after { head_state self.new ≡ save_done (head_state self.old) }
     {
-        let table = self.inner.table;
-        self.inner.saved = Some(table);
+        self.inner.saved = Some(self.inner.table);
     }
 
     // Restores the user defaults, if they were saved.
     pub(crate) fn restore(&mut self)
         ensures after { head_state self.new ≡ restore_done (head_state self.old) }
     {
-        let Some(saved) = self.inner.saved else {
-            return;
-        };
-        let mut records = self.inner.table.records;
-        put_back(&mut records, &saved.records);
-        self.inner.table = Table { records };
-    }
-}
-
-// Puts the saved attributes back into a table.
-fn put_back(records: &mut [Record], saved: &[Record])
-    requires table { length records.old ≡ 20 }
-    requires defaults { length saved.now ≡ 20 }
-    ensures after { words_in records.new ≡ put_back (only_saved (words_in saved.now)) (words_in records.old) }
-{
-    for number in 0..20u16 {
-        if is_saved(number) {
-            records[number as usize] = saved[number as usize];
+        if let Some(saved) = self.inner.saved {
+            self.inner.table = self.inner.table.with_saved(&saved);
         }
     }
 }

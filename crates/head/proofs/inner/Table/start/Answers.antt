@@ -1,12 +1,14 @@
-use Rattle.std.proofs.Common.{[], ◌∷◌, ap, ◌∙◌, ap₂, arith}
-use Rattle.camera.specs.Registers.{over}
+use Rattle.std.proofs.Common.{◌≡◌, take, rules}
+use Rattle.camera.specs.Attributes.{size_of}
+use Rattle.head.specs.Making.{made_words}
+use Rattle.head.specs.Meaning.{blank}
+use Rattle.head.proofs.Made.{made}
 use Rattle.head.proofs.Starting.{new_table}
 use Rattle.head.proofs.inner.Table.start.Goals as goal
 
 pub returns : goal.returns
 returns c =
     record {
-      value = new_table c.start_all.new.records c.args.serial c.args.fpa c.with.result c.with-2.result (omega arith)
-          c.start_all.ensures.after (c.with.ensures.value ∙ ap (over (c.args.fpa ∷ [])) c.blank.ensures.value)
-          (c.with-2.ensures.value ∙ ap₂ over c.put.ensures.after c.blank-2.ensures.value);
+      value = new_table c.from_fn.result c.args.serial c.args.fpa
+          (λ k h. made (λ k r. take (size_of k) r.words ≡ made_words c.args.serial c.args.fpa k) c.from_fn.ensures.items (λ k y q l e. search rules) k blank h);
     }
