@@ -2,8 +2,10 @@
 ghost use Rattle.camera.specs.Attributes.{attribute_at, has, is_saved, is_settable, size_of};
 ghost use Rattle.std.specs.Prelude.{◌≡◌, ◌≤◌};
 
+use crate::command::Command;
+
 // What a command does: it gets or sets an attribute, or runs what the attribute stands for.
-#[derive(Clone, Copy)]
+#[derive(Clone, Copy, Debug, PartialEq, Eq)]
 pub enum Kind {
     Get,
     Set,
@@ -11,7 +13,7 @@ pub enum Kind {
 }
 
 // Which kinds of command an attribute has.
-#[derive(Clone, Copy)]
+#[derive(Clone, Copy, Debug, PartialEq, Eq)]
 pub struct Kinds {
     pub gets: bool,
     pub sets: bool,
@@ -19,7 +21,7 @@ pub struct Kinds {
 }
 
 // The attributes by name, in the order of their numbers.
-#[derive(Clone, Copy)]
+#[derive(Clone, Copy, Debug, PartialEq, Eq)]
 pub enum Name {
     GainControl,
     Status,
@@ -44,7 +46,7 @@ pub enum Name {
 }
 
 // Which words may be set.
-#[derive(Clone, Copy)]
+#[derive(Clone, Copy, Debug, PartialEq, Eq)]
 pub enum Limits {
     // none: the attribute cannot be set
     Fixed,
@@ -61,7 +63,7 @@ pub enum Limits {
 }
 
 // One row of the table of attributes.
-#[derive(Clone, Copy)]
+#[derive(Clone, Copy, Debug, PartialEq, Eq)]
 pub struct Attribute {
     pub name: Name,
     // its command words without type and protection bit
@@ -274,22 +276,23 @@ const ATTRIBUTES: [Attribute; 20] = [
 ];
 
 // The numbers of attributes that have rules of their own.
-pub const STATUS: u16 = 1;
+pub const STATUS: u16 = Name::Status as u16;
 
-pub const SERIAL_NUMBER: u16 = 2;
+pub const SERIAL_NUMBER: u16 = Name::SerialNumber as u16;
 
-pub const FPA_TEMPERATURE: u16 = 3;
+pub const FPA_TEMPERATURE: u16 = Name::FpaTemperature as u16;
 
-pub const COLOUR_TABLE: u16 = 9;
+pub const COLOUR_TABLE: u16 = Name::ColourTable as u16;
 
-pub const FRAME_MEAN: u16 = 15;
+pub const FRAME_MEAN: u16 = Name::FrameMean as u16;
 
-pub const USER_DEFAULTS: u16 = 18;
+pub const USER_DEFAULTS: u16 = Name::UserDefaults as u16;
 
-pub const RESTORE: u16 = 19;
+pub const RESTORE: u16 = Name::Restore as u16;
 
 impl Attribute {
     // The attribute of a number, or none past the table's end.
+    #[tactic(auto, using(crate::proofs::Lists::item_nth), unfolding(crate::specs::Attributes::attribute_at))]
     pub fn of(number: u16) -> Option<Attribute>
         ensures value { result ≡ attribute_at number }
     {
@@ -308,31 +311,24 @@ impl Attribute {
     }
 }
 
-// A law, with nothing to run: no attribute has more words than the block buffer.
-fn size_law(number: u16)
-    ensures bound { size_of number ≤ 512 }
-{}
-
 // How many words the attribute of a number has: 512 at most, and none where there is no attribute.
+#[tactic(auto, using(crate::proofs::Sizes::words_bound))]
 pub fn size_of(number: u16) -> usize
     ensures value { result ≡ size_of number }
     ensures bound { result ≤ 512 }
 {
-    size_law(number);
-    match Attribute::of(number) {
-        Some(found) => usize::from(found.words),
-        None => 0,
-    }
+    Attribute::of(number).map_or(0, |found| usize::from(found.words))
 }
 
 // Whether a user may set the attribute of a number.
 pub fn is_settable(number: u16) -> bool
     ensures value { result ≡ is_settable number }
 {
-    match Attribute::of(number) {
-        Some(found) => found.offers(Kind::Set),
-        None => false,
-    }
+    let set = Command {
+        kind: Kind::Set,
+        number,
+    };
+    set.is_offered()
 }
 
 // Whether the user defaults save the attribute of a number: each that can be set is saved, but for the colour table.

@@ -3,7 +3,7 @@ ghost use Rattle.camera.specs.Registers.{fault_address, fault_number};
 ghost use Rattle.std.specs.Prelude.{◌≡◌};
 
 // A fault keeps the address of the access that met it.
-#[derive(Clone, Copy)]
+#[derive(Clone, Copy, Debug, PartialEq, Eq)]
 pub enum Fault {
     // 21: the device did not acknowledge
     NotAcknowledged { address: u16 },
@@ -27,8 +27,7 @@ impl Fault {
         ensures value { result ≡ fault_address self }
     {
         match self {
-            Fault::NotAcknowledged { address } => address,
-            Fault::NoRegister { address } => address,
+            Fault::NotAcknowledged { address } | Fault::NoRegister { address } => address,
         }
     }
 }

@@ -2,6 +2,7 @@
 #![tactic(auto)]
 
 mod attribute;
+mod bank;
 mod bus;
 mod command;
 mod directory;
@@ -15,6 +16,7 @@ pub use attribute::{
     Attribute, COLOUR_TABLE, COLUMNS, FPA_TEMPERATURE, FRAME_MEAN, Kind, Kinds, Limits, Name,
     RESTORE, ROWS, SERIAL_NUMBER, STATUS, USER_DEFAULTS, is_saved, is_settable, size_of,
 };
+pub use bank::Bank;
 pub use bus::Bus;
 pub use command::Command;
 pub use fault::Fault;
