@@ -2,8 +2,6 @@
 ghost use Rattle.calls.specs.Accesses.{camera};
 ghost use Rattle.calls.specs.Calls.{asleep, command_checks, get, ready, run, served, set, wake};
 ghost use Rattle.calls.specs.Outcomes.{outcome};
-ghost use Rattle.camera.specs.Attributes.{offers};
-ghost use Rattle.camera.specs.Execution.{moved};
 ghost use Rattle.checks.specs.Tests.{judged};
 ghost use Rattle.session.specs.Views.{HandsBack, answer_of, as_session, brought, command_in, left_by, order_outcome, session_after};
 ghost use Rattle.std.specs.Prelude.{◌≡◌, []};
@@ -12,36 +10,16 @@ use crate::collecting::is_budget;
 use crate::orders::Order;
 use crate::states::{Asleep, Ready, Session, Step};
 use calls::Refusal;
-use camera::{Attribute, Bus, Command, Kind, size_of};
-use driver::{Awaited, poll};
+use camera::Bus;
+use driver::{Awaited, check_command, poll};
 use std::mem::take;
-
-// How many words a command has to bring: a get's buffer and a set's words are as long as the attribute.
-fn words_moved(order: Command) -> usize
-    ensures value { result ≡ moved order.kind order.number }
-{
-    match order.kind {
-        Kind::Get | Kind::Set => size_of(order.number),
-        Kind::Run => 0,
-    }
-}
-
-fn offered(command: Command) -> bool
-    ensures value { result ≡ offers command.kind command.number }
-{
-    Attribute::of(command.number).is_some_and(|attribute| attribute.offers(command.kind))
-}
 
 // What is tested of a command before any access, on a session that is ready.
 fn check(order: Order<'_>, buffer: &[u16], budget: u16) -> Result<(), Refusal>
     ensures value { result ≡ judged (command_checks ready (command_in order.entry).kind (command_in order.entry).number (brought order.entry buffer.now) budget) tt }
 {
-    if !offered(order.command()) {
-        return Err(Refusal::NotOffered);
-    }
-    if order.brought(buffer) != words_moved(order.command()) {
-        return Err(Refusal::WrongSize);
-    }
+    let command = order.command();
+    check_command(command, order.brought(buffer), command.size())?;
     if !is_budget(budget) {
         return Err(Refusal::BadBudget);
     }
