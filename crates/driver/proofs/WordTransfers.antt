@@ -1,21 +1,17 @@
 -- One word more, written or read.
-use Rattle.std.proofs.Common.{◌≡◌, ℕ, suc, ◌+◌, ◌<◌, ◌≤◌, Bool, true, false, List, [], ◌∷◌, ◌++◌, length, get_or, take, drop, set, Ok, Err, sym, refl, ap, ◌∙◌, ap₂, append_assoc, append-nil, add-one, arith, take-append-drop, take_all, drop-cons, eqb-true}
+use Rattle.std.proofs.Common.{◌≡◌, ℕ, suc, ◌+◌, ◌<◌, ◌≤◌, Bool, true, false, List, [], ◌∷◌, ◌++◌, length, get_or, take, drop, set, Ok, Err, sym, refl, ap, ◌∙◌, ap₂, append_assoc, append-nil, add-one, arith, take-append-drop, take_all, drop-cons}
 use Rattle.std.proofs.lemmas.List.{drop_all, drop-set-lt, take_more_set}
 use Rattle.camera.specs.declared.fault.Fault.{Fault}
 use Rattle.camera.specs.declared.register.Register.{Register}
 use Rattle.camera.specs.State.{CameraState}
 use Rattle.camera.specs.Steps.{ended}
 use Rattle.calls.specs.Outcomes.{Fetched, by_answer}
-use Rattle.checks.specs.Tests.{judged}
-use Rattle.checks.proofs.Passing.{all_pass, judged_back}
 use Rattle.camera.specs.declared.attribute.Kind.{Kind}
 use Rattle.camera.specs.declared.attribute.Kind.TheVariants.{Get, Set, Run}
-use Rattle.camera.specs.declared.command.Command.{Command}
-use Rattle.camera.specs.Registers.{Exists}
 use Rattle.camera.specs.Attributes.{size_of}
 use Rattle.camera.specs.Execution.{by_data}
 use Rattle.camera.proofs.Sizes.{size_bound}
-use Rattle.calls.specs.Beginning.{words_sent, begin_checks}
+use Rattle.calls.specs.Beginning.{words_sent}
 use Rattle.driver.specs.Driving.{bank_size, fetched}
 use Rattle.calls.specs.Accesses.{register_read, register_written, place_register, words_written, words_read, with_word}
 
@@ -108,24 +104,12 @@ all_read through place buffer s h =
     ap (λ b. in_front (take place buffer) (words_read through place b s)) (drop_all place buffer h)
     ∙ ap (λ ws. fetched (Ok tt) ws s) (append-nil (take place buffer) ∙ take_all place buffer h)
 
--- the register at a place that lies before the end
-pub place_exists : (through : Bool) (place size : ℕ) (register : Register) → place < size → size ≤ bank_size through → register ≡ place_register through place → Exists register
-place_exists true place size register h bound is = rw is (let k : place < 16 = omega arith in k)
-place_exists false place size register h bound is = rw is (let k : place < 512 = omega arith in k)
-
--- the words of a command that passed its tests fit the registers through which they pass
-few_sent : (kind : Kind) (number : ℕ) → words_sent kind number ≤ size_of number
-few_sent Get number = omega arith
-few_sent Set number = omega arith
-few_sent Run number = omega arith
-
-bank_holds : (number n : ℕ) (b : Bool) → b ≡ by_data number → n ≤ size_of number → n ≤ bank_size b
+-- the words of a command that passed its tests fit the bank through which they pass
+bank_holds : (number n : ℕ) (through : Bool) → through ≡ by_data number → n ≤ size_of number → n ≤ bank_size through
 bank_holds number n true is h = let k : size_of number ≤ 16 = grind (arith, is) in omega arith
 bank_holds number n false is h = omega (arith, size_bound number)
 
-pub sent_fit : (c : Command) (words : List ℕ) (b : Bool) → judged {A = Unit {0}} (begin_checks c words) tt ≡ Ok tt → b ≡ by_data c.number → length words ≤ bank_size b
-sent_fit c words b passed is =
-    let all = all_pass (begin_checks c words) (judged_back (begin_checks c words) tt tt passed).0 in
-    let right : length words ≡ words_sent c.kind c.number = eqb-true (length words) (words_sent c.kind c.number) all.1.0 in
-    let few = few_sent c.kind c.number in
-    bank_holds c.number (length words) b is (omega arith)
+pub sent_fit : (kind : Kind) (number n : ℕ) (through : Bool) → n ≡ words_sent kind number → through ≡ by_data number → n ≤ bank_size through
+sent_fit Get number n through few is = bank_holds number n through is (omega arith)
+sent_fit Set number n through few is = bank_holds number n through is (omega arith)
+sent_fit Run number n through few is = bank_holds number n through is (omega arith)

@@ -1,7 +1,10 @@
 -- What the driver's values mean.
 use Rattle.std.specs.Prelude.{ℕ, Bool, true, false, cond, List, length, Ok, Err, Result, ◌==◌}
 use Rattle.camera.specs.declared.fault.Fault.{Fault}
-use Rattle.camera.specs.Registers.{data_size, block_size}
+use Rattle.std.specs.Coded.{Unit-prop, le_prop}
+use Rattle.camera.specs.declared.register.Register.{Register}
+use Rattle.camera.specs.declared.register.Register.TheVariants.{Power, Status, Command, Length, Data, Block}
+use Rattle.camera.specs.Registers.{Exists, data_size, block_size}
 use Rattle.camera.specs.Attributes.{size_of}
 use Rattle.camera.specs.Execution.{by_data}
 use Rattle.camera.specs.State.{CameraState}
@@ -46,3 +49,12 @@ all_lifted f = transferred (lifted f.answer) f.words f.after
 abbrev pub fetched_into : ℕ → List ℕ → CameraState → Transferred
 fetched_into number buffer s =
     cond (length buffer == size_of number) (all_lifted (words_read (by_data number) 0 buffer s)) (transferred (Err WrongSize) buffer s)
+
+-- That a register exists holds in one way.
+pub Exists-prop : (register : Register) → IsProp (Exists register)
+Exists-prop Power = Unit-prop
+Exists-prop Status = Unit-prop
+Exists-prop Command = Unit-prop
+Exists-prop Length = Unit-prop
+Exists-prop (Data place) = le_prop
+Exists-prop (Block place) = le_prop

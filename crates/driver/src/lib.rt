@@ -7,4 +7,4 @@ mod polling;
 mod transfer;
 
 pub use polling::{Awaited, poll};
-pub use transfer::{fetch, send};
+pub use transfer::{check_command, fetch, send};

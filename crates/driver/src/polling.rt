@@ -5,11 +5,12 @@ ghost use Rattle.camera.specs.Steps.{ended};
 ghost use Rattle.driver.specs.Driving.{passes};
 ghost use Rattle.std.specs.Prelude.{◌≡◌};
 
-use crate::access::read_register;
+use crate::access::Existing;
 use calls::Refusal;
-use camera::{Bus, Register};
+use camera::Bus;
 
-// What is waited for.
+// What is waited for. It is no closure that tests a status word, since that would put a `requires` on `poll`, that the closure
+// may be called, and no public function of the project has one.
 #[derive(Clone, Copy)]
 pub enum Awaited {
     // that the camera has booted and is not busy
@@ -45,12 +46,13 @@ impl Awaited {
 }
 
 // Reads the status register until it shows what is awaited, as often as the budget allows: that status word, or a refusal.
+#[tactic(auto, using(crate::proofs::StatusReads::none_left))]
 pub fn poll<B: Bus>(bus: &mut B, awaited: Awaited, budget: u16) -> Result<u16, Refusal>
     ensures outcome { ended result (B.Bus.state bus.new) ≡ polled camera (passes awaited) budget (B.Bus.state bus.old) }
 {
     'polling: {
         for _polls in 0..budget {
-            let status = read_register(bus, Register::Status)?;
+            let status = Existing::STATUS.read(bus)?;
             if awaited.is_shown(status) {
                 break 'polling Ok(status);
             }

@@ -1,97 +1,69 @@
 // Commands and words on their way to the camera and back.
-ghost use Rattle.std.specs.Prelude.{◌≡◌, ◌≤◌, length};
-ghost use Rattle.calls.specs.Accesses.{camera, command_written, word_for, words_read, words_written};
-ghost use Rattle.calls.specs.Beginning.{begin_checks, begun, words_sent};
-ghost use Rattle.camera.specs.Execution.{by_data, moved};
+ghost use Rattle.calls.specs.Accesses.{camera, command_written, words_read, words_written};
+ghost use Rattle.calls.specs.Beginning.{begun, words_sent};
+ghost use Rattle.calls.specs.declared.refusal.Refusal.TheVariants.{NotOffered, WrongSize};
+ghost use Rattle.camera.specs.Attributes.{offers};
+ghost use Rattle.camera.specs.Banks.{is_data};
 ghost use Rattle.camera.specs.Steps.{ended};
 ghost use Rattle.checks.specs.Tests.{judged};
 ghost use Rattle.driver.specs.Driving.{bank_size, fetched, fetched_into, transferred};
+ghost use Rattle.std.specs.Prelude.{◌≡◌, ◌≤◌, ◌==◌, length, [], ◌∷◌};
 
-use crate::access::{place_register, read_register, write_register};
+use crate::access::Existing;
 use calls::Refusal;
-use camera::{Attribute, Bus, Command, Fault, Kind, Register, size_of};
-
-// How many words an attribute may have that passes through the data registers.
-const DATA_WORDS: usize = 16;
-
-// Whether the words of an attribute pass through the data registers; else they pass through the block buffer.
-fn goes_by_data(number: u16) -> bool
-    ensures value { result ≡ by_data number }
-{
-    size_of(number) <= DATA_WORDS
-}
-
-// How many words a command moves.
-fn words_moved(command: Command) -> u16
-    ensures value { result ≡ moved command.kind command.number }
-{
-    match command.kind {
-        Kind::Get | Kind::Set => size_of(command.number) as u16,
-        Kind::Run => 0,
-    }
-}
+use camera::{Bank, Bus, Command, Fault, Kind, size_of};
 
 // How many words are sent with a command.
 fn words_sent(command: Command) -> usize
     ensures value { result ≡ words_sent command.kind command.number }
 {
     match command.kind {
-        Kind::Set => size_of(command.number),
+        Kind::Set => command.size(),
         Kind::Get | Kind::Run => 0,
     }
 }
 
-// The command word of a command, or 0 if there is no such attribute.
-fn word_for(command: Command) -> u16
-    ensures value { result ≡ word_for command }
+// What is tested of a command first: that the attribute offers it, and that it brings as many words as are wanted.
+pub fn check_command(command: Command, brought: usize, wanted: usize) -> Result<(), Refusal>
+    ensures value { result ≡ judged ((offers command.kind command.number, NotOffered) ∷ (brought == wanted, WrongSize) ∷ []) tt }
 {
-    command.word().unwrap_or(0)
-}
-
-// What is tested before a command is sent: that the attribute offers it, and that the right number of words comes with it.
-fn check(command: Command, words: &[u16]) -> Result<(), Refusal>
-    ensures value { result ≡ judged (begin_checks command words.now) tt }
-{
-    let Some(attribute) = Attribute::of(command.number) else {
-        return Err(Refusal::NotOffered);
-    };
-    if !attribute.offers(command.kind) {
+    if !command.is_offered() {
         return Err(Refusal::NotOffered);
     }
-    if words.len() != words_sent(command) {
+    if brought != wanted {
         return Err(Refusal::WrongSize);
     }
     Ok(())
 }
 
-// Writes words to the data registers or the block buffer, from the first on.
-fn write_words<B: Bus>(bus: &mut B, by_data: bool, words: &[u16]) -> Result<(), Fault>
-    requires { length words.now ≤ bank_size by_data }
-    ensures outcome { ended result (B.Bus.state bus.new) ≡ words_written by_data 0 words.now (B.Bus.state bus.old) }
+// Writes words to a bank, from its first place on.
+#[tactic(auto, using(crate::proofs::WordTransfers::writes_on, crate::proofs::WordTransfers::all_written))]
+fn write_words<B: Bus>(bus: &mut B, bank: Bank, words: &[u16]) -> Result<(), Fault>
+    requires { length words.now ≤ bank_size (is_data bank) }
+    ensures outcome { ended result (B.Bus.state bus.new) ≡ words_written (is_data bank) 0 words.now (B.Bus.state bus.old) }
 {
     for (place, word) in words.iter().enumerate() {
-        write_register(bus, place_register(by_data, place as u16), *word)?;
+        Existing::in_bank(bank, place as u16).write(bus, *word)?;
     }
     Ok(())
 }
 
-// Writes how many words a command moves, and then the command word.
+// Writes how many words a command moves, and then the command word; a command of no attribute has none, and 0 is written.
 fn write_command<B: Bus>(bus: &mut B, command: Command) -> Result<(), Fault>
     ensures outcome { ended result (B.Bus.state bus.new) ≡ command_written command (B.Bus.state bus.old) }
 {
-    write_register(bus, Register::Length, words_moved(command))?;
-    write_register(bus, Register::Command, word_for(command))
+    Existing::LENGTH.write(bus, command.size() as u16)?;
+    Existing::COMMAND.write(bus, command.word().unwrap_or(0))
 }
 
-// Reads words from the data registers or the block buffer into a buffer, from the first on.
-fn read_words<B: Bus>(bus: &mut B, by_data: bool, buffer: &mut [u16]) -> Result<(), Fault>
-    requires { length buffer.old ≤ bank_size by_data }
-    ensures outcome { fetched result buffer.new (B.Bus.state bus.new) ≡ words_read by_data 0 buffer.old (B.Bus.state bus.old) }
+// Reads words from a bank into a buffer, from its first place on.
+#[tactic(auto, using(crate::proofs::WordTransfers::reads_on, crate::proofs::WordTransfers::all_read))]
+fn read_words<B: Bus>(bus: &mut B, bank: Bank, buffer: &mut [u16]) -> Result<(), Fault>
+    requires { length buffer.old ≤ bank_size (is_data bank) }
+    ensures outcome { fetched result buffer.new (B.Bus.state bus.new) ≡ words_read (is_data bank) 0 buffer.old (B.Bus.state bus.old) }
 {
-    let mut place: u16 = 0;
-    for word in buffer.iter_mut() {
-        *word = read_register(bus, place_register(by_data, place))?;
-        place += 1;
+    for (place, word) in buffer.iter_mut().enumerate() {
+        *word = Existing::in_bank(bank, place as u16).read(bus)?;
     }
     Ok(())
 }
@@ -101,8 +73,8 @@ fn read_words<B: Bus>(bus: &mut B, by_data: bool, buffer: &mut [u16]) -> Result<
 pub fn send<B: Bus>(bus: &mut B, command: Command, words: &[u16]) -> Result<(), Refusal>
     ensures outcome { ended result (B.Bus.state bus.new) ≡ begun camera command words.now (B.Bus.state bus.old) }
 {
-    check(command, words)?;
-    write_words(bus, goes_by_data(command.number), words)?;
+    check_command(command, words.len(), words_sent(command))?;
+    write_words(bus, Bank::of(command.number), words)?;
     write_command(bus, command)?;
     Ok(())
 }
@@ -114,6 +86,6 @@ pub fn fetch<B: Bus>(bus: &mut B, number: u16, buffer: &mut [u16]) -> Result<(),
     if buffer.len() != size_of(number) {
         return Err(Refusal::WrongSize);
     }
-    read_words(bus, goes_by_data(number), buffer)?;
+    read_words(bus, Bank::of(number), buffer)?;
     Ok(())
 }

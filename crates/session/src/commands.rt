@@ -2,72 +2,36 @@
 ghost use Rattle.calls.specs.Accesses.{camera};
 ghost use Rattle.calls.specs.Calls.{asleep, command_checks, get, ready, run, served, set, wake};
 ghost use Rattle.calls.specs.Outcomes.{outcome};
-ghost use Rattle.camera.specs.Execution.{moved};
 ghost use Rattle.checks.specs.Tests.{judged};
-ghost use Rattle.session.specs.Views.{SendsNoOther, as_session, brought, command_outcome, left};
+ghost use Rattle.session.specs.Views.{HandsBack, answer_of, as_session, brought, command_in, left_by, order_outcome, session_after};
 ghost use Rattle.std.specs.Prelude.{◌≡◌, []};
 
 use crate::collecting::is_budget;
-use crate::states::{Asleep, Ready, Session};
+use crate::orders::Order;
+use crate::states::{Asleep, Ready, Session, Step};
 use calls::Refusal;
-use camera::{Attribute, Bus, Command, Kind, size_of};
-use driver::{Awaited, poll};
-use std::mem::replace;
-
-// How many words a command has to bring: a get's buffer and a set's words are as long as the attribute.
-fn words_moved(order: Command) -> usize
-    ensures value { result ≡ moved order.kind order.number }
-{
-    match order.kind {
-        Kind::Get | Kind::Set => size_of(order.number),
-        Kind::Run => 0,
-    }
-}
+use camera::Bus;
+use driver::{Awaited, check_command, poll};
+use std::mem::take;
 
 // What is tested of a command before any access, on a session that is ready.
-fn check(order: Command, words: &[u16], buffer: &[u16], budget: u16) -> Result<(), Refusal>
-    ensures value { result ≡ judged (command_checks ready order.kind order.number (brought order.kind words.now buffer.now) budget) tt }
+fn check(order: Order<'_>, buffer: &[u16], budget: u16) -> Result<(), Refusal>
+    ensures value { result ≡ judged (command_checks ready (command_in order.entry).kind (command_in order.entry).number (brought order.entry buffer.now) budget) tt }
 {
-    let Some(attribute) = Attribute::of(order.number) else {
-        return Err(Refusal::NotOffered);
-    };
-    if !attribute.offers(order.kind) {
-        return Err(Refusal::NotOffered);
-    }
-    let brought = match order.kind {
-        Kind::Get => buffer.len(),
-        Kind::Set => words.len(),
-        Kind::Run => 0,
-    };
-    if brought != words_moved(order) {
-        return Err(Refusal::WrongSize);
-    }
+    let command = order.command();
+    check_command(command, order.brought(buffer), command.size())?;
     if !is_budget(budget) {
         return Err(Refusal::BadBudget);
     }
     Ok(())
 }
 
-impl Ready {
-    // A whole command: tested, begun and collected.
-    fn issue<B: Bus>(
-        self,
-        bus: &mut B,
-        order: Command,
-        words: &[u16],
-        buffer: &mut [u16],
-        budget: u16,
-    ) -> (Session, Result<(), Refusal>)
-        requires { SendsNoOther order.kind words.now }
-        ensures outcome { left result buffer.new (B.Bus.state bus.new) ≡ command_outcome ready order words.now buffer.old budget (B.Bus.state bus.old) }
-    {
-        if let Err(refusal) = check(order, words, buffer, budget) {
-            return (Session::Ready(self), Err(refusal));
-        }
-        match self.begin(bus, order, words) {
-            Ok(token) => token.collect(bus, buffer, budget),
-            Err((session, refusal)) => (Session::Ready(session), Err(refusal)),
-        }
+// A session is asleep where none is given.
+impl Default for Session {
+    ghost is_default = { λ session. as_session session ≡ asleep };
+
+    fn default() -> Session {
+        Session::Asleep(Asleep)
     }
 }
 
@@ -76,54 +40,73 @@ impl Session {
     pub fn new() -> Session
         ensures state { as_session result ≡ asleep }
     {
-        Session::Asleep(Asleep {})
+        Session::default()
+    }
+
+    // Takes what a step hands on, and answers it.
+    fn keep(&mut self, step: Step) -> Result<(), Refusal>
+        ensures answer { result ≡ answer_of step }
+        ensures state { as_session self.new ≡ session_after step }
+    {
+        match step {
+            Ok(state) => {
+                *self = Session::Ready(state);
+                Ok(())
+            }
+            Err((session, refusal)) => {
+                *self = session;
+                Err(refusal)
+            }
+        }
+    }
+
+    // The tests of an order let the ready session through.
+    fn tested(self, order: Order<'_>, buffer: &[u16], budget: u16) -> Step
+        ensures value { answer_of result ≡ judged (command_checks (as_session self) (command_in order.entry).kind (command_in order.entry).number (brought order.entry buffer.now) budget) tt }
+        ensures kept { HandsBack self result }
+    {
+        match self {
+            Session::Asleep(_) => Err((self, Refusal::Asleep)),
+            Session::Parked(_) => Err((self, Refusal::CommandParked)),
+            Session::Ready(state) => match check(order, buffer, budget) {
+                Ok(()) => Ok(state),
+                Err(refusal) => Err((Session::Ready(state), refusal)),
+            },
+        }
     }
 
     // A wake, with the session handed on.
-    fn woken<B: Bus>(self, bus: &mut B, budget: u16) -> (Session, Result<(), Refusal>)
-        ensures outcome { left result [] (B.Bus.state bus.new) ≡ outcome camera (as_session self) (wake budget) (B.Bus.state bus.old) }
+    fn woken<B: Bus>(self, bus: &mut B, budget: u16) -> Step
+        ensures outcome { left_by result [] (B.Bus.state bus.new) ≡ outcome camera (as_session self) (wake budget) (B.Bus.state bus.old) }
     {
-        match self {
-            Session::Asleep(state) => {
-                if !is_budget(budget) {
-                    return (Session::Asleep(state), Err(Refusal::BadBudget));
-                }
-                match poll(bus, Awaited::Up, budget) {
-                    Ok(_) => (Session::Ready(Ready {}), Ok(())),
-                    Err(refusal) => (Session::Asleep(state), Err(refusal)),
-                }
-            }
-            other => (other, Err(Refusal::Awake)),
+        let Session::Asleep(state) = self else {
+            return Err((self, Refusal::Awake));
+        };
+        if !is_budget(budget) {
+            return Err((Session::Asleep(state), Refusal::BadBudget));
         }
+        poll(bus, Awaited::Up, budget).map_err(|refusal| (Session::Asleep(state), refusal))?;
+        Ok(Ready)
     }
 
-    // A whole command, with the session handed on.
-    fn ordered<B: Bus>(
-        self,
-        bus: &mut B,
-        order: Command,
-        words: &[u16],
-        buffer: &mut [u16],
-        budget: u16,
-    ) -> (Session, Result<(), Refusal>)
-        requires { SendsNoOther order.kind words.now }
-        ensures outcome { left result buffer.new (B.Bus.state bus.new) ≡ command_outcome (as_session self) order words.now buffer.old budget (B.Bus.state bus.old) }
+    // A whole command, with the session handed on: tested, begun and collected.
+    #[tactic(auto, using(crate::proofs::Issuing::ends, crate::proofs::Issuing::goes_on))]
+    fn ordered<B: Bus>(self, bus: &mut B, order: Order<'_>, buffer: &mut [u16], budget: u16) -> Step
+        ensures outcome { left_by result buffer.new (B.Bus.state bus.new) ≡ order_outcome (as_session self) order.entry buffer.old budget (B.Bus.state bus.old) }
     {
-        match self {
-            Session::Asleep(state) => (Session::Asleep(state), Err(Refusal::Asleep)),
-            Session::Parked(state) => (Session::Parked(state), Err(Refusal::CommandParked)),
-            Session::Ready(state) => state.issue(bus, order, words, buffer, budget),
-        }
+        let state = self.tested(order, buffer, budget)?;
+        let token = state
+            .begin(bus, order)
+            .map_err(|(state, refusal)| (Session::Ready(state), refusal))?;
+        token.waiting().resumed(bus, buffer, budget)
     }
 
     // Wakes the session: status is read until the camera has booted and is not busy.
     pub fn wake<B: Bus>(&mut self, bus: &mut B, budget: u16) -> Result<(), Refusal>
         ensures outcome { served result [] (as_session self.new) (B.Bus.state bus.new) ≡ outcome camera (as_session self.old) (wake budget) (B.Bus.state bus.old) }
     {
-        let session = replace(self, Session::new());
-        let (session, result) = session.woken(bus, budget);
-        *self = session;
-        result
+        let step = take(self).woken(bus, budget);
+        self.keep(step)
     }
 
     // Gets the words of an attribute into a buffer of its size.
@@ -136,14 +119,8 @@ impl Session {
     ) -> Result<(), Refusal>
         ensures outcome { served result buffer.new (as_session self.new) (B.Bus.state bus.new) ≡ outcome camera (as_session self.old) (get number buffer.old budget) (B.Bus.state bus.old) }
     {
-        let order = Command {
-            kind: Kind::Get,
-            number,
-        };
-        let session = replace(self, Session::new());
-        let (session, result) = session.ordered(bus, order, &[], buffer, budget);
-        *self = session;
-        result
+        let step = take(self).ordered(bus, Order::Get(number), buffer, budget);
+        self.keep(step)
     }
 
     // Sets an attribute to words, as many as it has.
@@ -156,27 +133,15 @@ impl Session {
     ) -> Result<(), Refusal>
         ensures outcome { served result [] (as_session self.new) (B.Bus.state bus.new) ≡ outcome camera (as_session self.old) (set number words.now budget) (B.Bus.state bus.old) }
     {
-        let order = Command {
-            kind: Kind::Set,
-            number,
-        };
-        let session = replace(self, Session::new());
-        let (session, result) = session.ordered(bus, order, words, &mut [], budget);
-        *self = session;
-        result
+        let step = take(self).ordered(bus, Order::Set(number, words), &mut [], budget);
+        self.keep(step)
     }
 
     // Runs what an attribute stands for.
     pub fn run<B: Bus>(&mut self, bus: &mut B, number: u16, budget: u16) -> Result<(), Refusal>
         ensures outcome { served result [] (as_session self.new) (B.Bus.state bus.new) ≡ outcome camera (as_session self.old) (run number budget) (B.Bus.state bus.old) }
     {
-        let order = Command {
-            kind: Kind::Run,
-            number,
-        };
-        let session = replace(self, Session::new());
-        let (session, result) = session.ordered(bus, order, &[], &mut [], budget);
-        *self = session;
-        result
+        let step = take(self).ordered(bus, Order::Run(number), &mut [], budget);
+        self.keep(step)
     }
 }

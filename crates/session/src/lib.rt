@@ -3,6 +3,7 @@
 
 mod collecting;
 mod commands;
+mod orders;
 mod states;
 mod steps;
 

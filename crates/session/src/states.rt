@@ -1,14 +1,14 @@
 // The states of a session. Each is a value of its own that a step uses up; the bus is passed beside it.
-use calls::Stage;
+use calls::{Refusal, Stage};
 use camera::Command;
 
 // Nothing is known of the camera yet.
 #[derive(Drop)]
-pub struct Asleep {}
+pub struct Asleep;
 
 // The camera was seen idle, and no command is under way.
 #[derive(Drop)]
-pub struct Ready {}
+pub struct Ready;
 
 // The answer of a command that the camera has taken is owed.
 #[derive(Drop)]
@@ -30,3 +30,6 @@ pub enum Session {
     Ready(Ready),
     Parked(Parked),
 }
+
+// What a step hands on: carried out, it leaves the session ready; refused, it hands back the session with the refusal.
+pub(crate) type Step = Result<Ready, (Session, Refusal)>;

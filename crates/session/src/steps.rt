@@ -3,15 +3,17 @@ ghost use Rattle.calls.specs.Accesses.{camera};
 ghost use Rattle.calls.specs.Beginning.{begun};
 ghost use Rattle.calls.specs.Calls.{resume};
 ghost use Rattle.calls.specs.Outcomes.{outcome};
+ghost use Rattle.calls.specs.declared.stage.Stage.TheVariants.{Waiting};
 ghost use Rattle.camera.specs.Commands.{command};
 ghost use Rattle.camera.specs.Steps.{ended};
 ghost use Rattle.camera.specs.declared.attribute.Kind.TheVariants.{Get, Set, Run};
-ghost use Rattle.session.specs.Views.{TokenOf, as_begun, as_session, in_flight, left};
+ghost use Rattle.session.specs.Views.{TokenOf, as_begun, as_session, command_in, in_flight, left, left_by, words_in};
 ghost use Rattle.std.specs.Prelude.{◌≡◌, []};
 
-use crate::states::{InFlight, Parked, Ready, Session};
+use crate::orders::Order;
+use crate::states::{InFlight, Parked, Ready, Session, Step};
 use calls::{Refusal, Stage};
-use camera::{Bus, Command, Kind};
+use camera::Bus;
 use driver::send;
 
 impl Ready {
@@ -19,16 +21,14 @@ impl Ready {
     pub(crate) fn begin<B: Bus>(
         self,
         bus: &mut B,
-        order: Command,
-        words: &[u16],
+        order: Order<'_>,
     ) -> Result<InFlight, (Ready, Refusal)>
-        ensures outcome { ended (as_begun result) (B.Bus.state bus.new) ≡ begun camera order words.now (B.Bus.state bus.old) }
-        ensures token { TokenOf order result }
+        ensures outcome { ended (as_begun result) (B.Bus.state bus.new) ≡ begun camera (command_in order.entry) (words_in order.entry) (B.Bus.state bus.old) }
+        ensures token { TokenOf (command_in order.entry) result }
     {
-        match send(bus, order, words) {
-            Ok(()) => Ok(InFlight { command: order }),
-            Err(refusal) => Err((self, refusal)),
-        }
+        let command = order.command();
+        send(bus, command, order.words()).map_err(|refusal| (self, refusal))?;
+        Ok(InFlight { command })
     }
 
     // Begins a get of the attribute of a number.
@@ -36,11 +36,7 @@ impl Ready {
         ensures outcome { ended (as_begun result) (B.Bus.state bus.new) ≡ begun camera (command Get number) [] (B.Bus.state bus.old) }
         ensures token { TokenOf (command Get number) result }
     {
-        let order = Command {
-            kind: Kind::Get,
-            number,
-        };
-        self.begin(bus, order, &[])
+        self.begin(bus, Order::Get(number))
     }
 
     // Begins a set of the attribute of a number to words.
@@ -53,11 +49,7 @@ impl Ready {
         ensures outcome { ended (as_begun result) (B.Bus.state bus.new) ≡ begun camera (command Set number) words.now (B.Bus.state bus.old) }
         ensures token { TokenOf (command Set number) result }
     {
-        let order = Command {
-            kind: Kind::Set,
-            number,
-        };
-        self.begin(bus, order, words)
+        self.begin(bus, Order::Set(number, words))
     }
 
     // Begins a run of the attribute of a number.
@@ -65,24 +57,28 @@ impl Ready {
         ensures outcome { ended (as_begun result) (B.Bus.state bus.new) ≡ begun camera (command Run number) [] (B.Bus.state bus.old) }
         ensures token { TokenOf (command Run number) result }
     {
-        let order = Command {
-            kind: Kind::Run,
-            number,
-        };
-        self.begin(bus, order, &[])
+        self.begin(bus, Order::Run(number))
     }
 }
 
 impl InFlight {
+    // The command, parked and waiting for its answer.
+    pub(crate) fn waiting(self) -> Parked
+        ensures command { result.command ≡ self.command }
+        ensures stage { result.stage ≡ Waiting }
+    {
+        let InFlight { command } = self;
+        Parked {
+            command,
+            stage: Stage::Waiting,
+        }
+    }
+
     // Keeps the command in a session, whose resume collects the answer.
     pub fn park(self) -> Session
         ensures state { as_session result ≡ in_flight self }
     {
-        let InFlight { command } = self;
-        Session::Parked(Parked {
-            command,
-            stage: Stage::Waiting,
-        })
+        Session::Parked(self.waiting())
     }
 
     // Collects the answer, as a resume of the parked command would.
@@ -94,11 +90,9 @@ impl InFlight {
     ) -> (Session, Result<(), Refusal>)
         ensures outcome { left result buffer.new (B.Bus.state bus.new) ≡ outcome camera (in_flight self) (resume buffer.old budget) (B.Bus.state bus.old) }
     {
-        let InFlight { command } = self;
-        let parked = Parked {
-            command,
-            stage: Stage::Waiting,
-        };
-        parked.resumed(bus, buffer, budget)
+        match self.waiting().resumed(bus, buffer, budget) {
+            Ok(state) => (Session::Ready(state), Ok(())),
+            Err((session, refusal)) => (session, Err(refusal)),
+        }
     }
 }
