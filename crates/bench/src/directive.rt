@@ -1,11 +1,13 @@
 // What a line of a script may ask for, and how a line is read.
 use crate::error::ScriptError;
-use crate::fields::{bytes, size, word, words};
+use crate::fields::{byte, each, number, size};
 use crate::head_directive::{HeadDirective, parse_head};
-use crate::value::{Value, ValueKind};
+use crate::value::Kind;
 use packet::{Access, Denial, Function, Reply};
 use std::alloc::Global;
+use words::{Region, WrongSize};
 
+// A value's kind is known only while its directive is read: what is kept of the value is what is printed.
 #[derive(Drop)]
 pub(crate) enum Directive {
     // the checksum of bytes
@@ -19,51 +21,36 @@ pub(crate) enum Directive {
     // bytes read as the reply to a function
     UnpackReply(Function, Vec<u8>),
     // the words of a value
-    Put(Value),
-    // the value of words
-    Take(ValueKind, Vec<u16>),
+    Put(Vec<u16>),
+    // the value of words, as a script writes it
+    Take(Result<String, WrongSize>),
     // something of the camera head
     Head(HeadDirective),
 }
 
 // The directive of a line, or none if the line is blank or a comment.
 pub(crate) fn parse_line(heap: Global, line: &str) -> Result<Option<Directive>, ScriptError> {
-    let text = match line.split_once('#') {
-        Some((before, _)) => before,
-        None => line,
-    };
+    let text = line.split_once('#').map_or(line, |(before, _)| before);
     let fields: Vec<&str> = text.split_ascii_whitespace().collect(heap)?;
     match fields.as_slice() {
         [] => Ok(None),
-        [name, rest @ ..] => Ok(Some(parse(heap, name, rest)?)),
+        [name, rest @ ..] => parse(heap, name, rest).map(Some),
     }
 }
 
 // The directive of a name and the fields behind it.
 fn parse(heap: Global, name: &str, fields: &[&str]) -> Result<Directive, ScriptError> {
     match (name, fields) {
-        ("crc", _) => Ok(Directive::Crc(bytes(heap, fields)?)),
+        ("crc", _) => Ok(Directive::Crc(each(heap, fields, byte)?)),
         ("request", _) => parse_request(fields),
-        ("reply", ["read", rest @ ..]) => parse_read_reply(rest),
-        ("reply", ["write", rest @ ..]) => parse_write_reply(rest),
-        ("unpack-request", _) => Ok(Directive::UnpackRequest(bytes(heap, fields)?)),
-        ("unpack-reply", ["read", rest @ ..]) => Ok(Directive::UnpackReply(
-            Function::Read,
-            bytes(heap, rest)?,
+        ("reply", _) => parse_reply(fields),
+        ("unpack-request", _) => Ok(Directive::UnpackRequest(each(heap, fields, byte)?)),
+        ("unpack-reply", [function, rest @ ..]) => Ok(Directive::UnpackReply(
+            parse_function(function)?,
+            each(heap, rest, byte)?,
         )),
-        ("unpack-reply", ["write", rest @ ..]) => Ok(Directive::UnpackReply(
-            Function::Write,
-            bytes(heap, rest)?,
-        )),
-        ("put", [kind, value]) => Ok(Directive::Put(ValueKind::parse(kind)?.value(heap, value)?)),
-        ("take", [kind, rest @ ..]) => Ok(Directive::Take(
-            ValueKind::parse(kind)?,
-            words(heap, rest)?,
-        )),
-        _ => match parse_head(heap, name, fields)? {
-            Some(directive) => Ok(Directive::Head(directive)),
-            None => Err(ScriptError::Directive),
-        },
+        ("put" | "take", [kind, rest @ ..]) => parse_value(heap, name, kind, rest),
+        _ => Ok(Directive::Head(parse_head(heap, name, fields)?)),
     }
 }
 
@@ -71,54 +58,45 @@ fn parse(heap: Global, name: &str, fields: &[&str]) -> Result<Directive, ScriptE
 fn parse_size(fields: &[&str]) -> Result<Option<usize>, ScriptError> {
     match fields {
         [] => Ok(None),
-        [text] => Ok(Some(size(text)?)),
+        [text] => size(text).map(Some),
         _ => Err(ScriptError::Directive),
     }
 }
 
+// An access, and the size of the buffer for its packet.
 fn parse_request(fields: &[&str]) -> Result<Directive, ScriptError> {
-    match fields {
+    let (access, rest) = match fields {
         ["read", address, rest @ ..] => {
-            Ok(Directive::Request(
-                Access::Read {
-                    address: word(address)?,
-                },
-                parse_size(rest)?,
-            ))
+            let address = number(address)?;
+            (Access::Read { address }, rest)
         }
-        ["write", address, value, rest @ ..] => {
-            let access = Access::Write {
-                address: word(address)?,
-                word: word(value)?,
-            };
-            Ok(Directive::Request(access, parse_size(rest)?))
+        ["write", address, word, rest @ ..] => {
+            let address = number(address)?;
+            let word = number(word)?;
+            (Access::Write { address, word }, rest)
         }
+        _ => return Err(ScriptError::Directive),
+    };
+    Ok(Directive::Request(access, parse_size(rest)?))
+}
+
+// The function that a reply answers and what it answers, and the size of the buffer for its packet.
+fn parse_reply(fields: &[&str]) -> Result<Directive, ScriptError> {
+    let (reply, rest) = match fields {
+        ["read", "word", word, rest @ ..] => (Reply::Read(Ok(number(word)?)), rest),
+        ["write", "done", rest @ ..] => (Reply::Write(Ok(())), rest),
+        ["read", denial, rest @ ..] => (Reply::Read(Err(parse_denial(denial)?)), rest),
+        ["write", denial, rest @ ..] => (Reply::Write(Err(parse_denial(denial)?)), rest),
+        _ => return Err(ScriptError::Directive),
+    };
+    Ok(Directive::Reply(reply, parse_size(rest)?))
+}
+
+fn parse_function(text: &str) -> Result<Function, ScriptError> {
+    match text {
+        "read" => Ok(Function::Read),
+        "write" => Ok(Function::Write),
         _ => Err(ScriptError::Directive),
-    }
-}
-
-fn parse_read_reply(fields: &[&str]) -> Result<Directive, ScriptError> {
-    match fields {
-        ["word", value, rest @ ..] => Ok(Directive::Reply(
-            Reply::Read(Ok(word(value)?)),
-            parse_size(rest)?,
-        )),
-        [other, rest @ ..] => Ok(Directive::Reply(
-            Reply::Read(Err(parse_denial(other)?)),
-            parse_size(rest)?,
-        )),
-        [] => Err(ScriptError::Directive),
-    }
-}
-
-fn parse_write_reply(fields: &[&str]) -> Result<Directive, ScriptError> {
-    match fields {
-        ["done", rest @ ..] => Ok(Directive::Reply(Reply::Write(Ok(())), parse_size(rest)?)),
-        [other, rest @ ..] => Ok(Directive::Reply(
-            Reply::Write(Err(parse_denial(other)?)),
-            parse_size(rest)?,
-        )),
-        [] => Err(ScriptError::Directive),
     }
 }
 
@@ -126,6 +104,48 @@ fn parse_denial(text: &str) -> Result<Denial, ScriptError> {
     match text {
         "no-ack" => Ok(Denial::NotAcknowledged),
         "no-register" => Ok(Denial::NoRegister),
+        _ => Err(ScriptError::Directive),
+    }
+}
+
+// The directive of a name and a kind's name, and of the fields behind them.
+fn parse_value(
+    heap: Global,
+    name: &str,
+    kind: &str,
+    fields: &[&str],
+) -> Result<Directive, ScriptError> {
+    match kind {
+        "single" => parse_kind::<u16>(heap, name, fields),
+        "pair" => parse_kind::<u32>(heap, name, fields),
+        "signed" => parse_kind::<i32>(heap, name, fields),
+        "quad" => parse_kind::<u64>(heap, name, fields),
+        "region" => parse_kind::<Region>(heap, name, fields),
+        _ => Err(ScriptError::Directive),
+    }
+}
+
+// The directive of a name, on a value of a kind.
+fn parse_kind<C: Kind>(
+    heap: Global,
+    name: &str,
+    fields: &[&str],
+) -> Result<Directive, ScriptError> {
+    match (name, fields) {
+        ("put", [text]) => {
+            let mut words = vec![in heap; 0; C::word_count()]?;
+            match C::parse(heap, text)?.put(words.as_mut_slice()) {
+                Ok(()) => Ok(Directive::Put(words)),
+                Err(WrongSize) => Err(ScriptError::Number),
+            }
+        }
+        ("take", _) => {
+            let words = each(heap, fields, number::<u16>)?;
+            match C::take(words.as_slice()) {
+                Ok(value) => Ok(Directive::Take(Ok(value.text(heap)?))),
+                Err(refusal) => Ok(Directive::Take(Err(refusal))),
+            }
+        }
         _ => Err(ScriptError::Directive),
     }
 }

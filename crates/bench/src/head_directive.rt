@@ -1,6 +1,7 @@
 // What a line of a script may ask of a camera head.
 use crate::error::ScriptError;
-use crate::fields::{decimal_word, long_number, word, words};
+use crate::fields::{decimal_word, each, number};
+use camera::Attribute;
 use stack::Links;
 use std::alloc::Global;
 
@@ -13,9 +14,6 @@ const MOST_MARKS: usize = 5_000;
 // The most pixels on a line.
 const MOST_PIXELS: usize = 65_535;
 
-// The number of the last attribute.
-const LAST_ATTRIBUTE: u16 = 19;
-
 // A setting of the next head.
 #[derive(Drop)]
 pub(crate) enum Setting {
@@ -27,6 +25,7 @@ pub(crate) enum Setting {
     Links(Links),
 }
 
+// What a line asks of the next head, or of the head that there is.
 #[derive(Drop)]
 pub(crate) enum HeadDirective {
     Set(Setting),
@@ -38,41 +37,42 @@ pub(crate) enum HeadDirective {
     Attribute(u16),
 }
 
-// The directive of a name and the fields behind it, or none if the name is not one of these.
+// The directive of a name and the fields behind it.
 pub(crate) fn parse_head(
     heap: Global,
     name: &str,
     fields: &[&str],
-) -> Result<Option<HeadDirective>, ScriptError> {
+) -> Result<HeadDirective, ScriptError> {
     let directive = match (name, fields) {
-        ("boot", [polls]) => HeadDirective::Set(Setting::Boot(word(polls)?)),
-        ("serial", [number]) => HeadDirective::Set(Setting::Serial(long_number(number)?)),
-        ("fpa", [temperature]) => HeadDirective::Set(Setting::Fpa(word(temperature)?)),
+        ("boot", [polls]) => HeadDirective::Set(Setting::Boot(number(polls)?)),
+        ("serial", [serial]) => HeadDirective::Set(Setting::Serial(number(serial)?)),
+        ("fpa", [temperature]) => HeadDirective::Set(Setting::Fpa(number(temperature)?)),
         ("busy", _) => HeadDirective::Set(Setting::Busy(parse_busy(heap, fields)?)),
         ("acks", _) => HeadDirective::Set(Setting::Acks(parse_marks(heap, fields)?)),
         ("links", [count]) => HeadDirective::Set(Setting::Links(parse_links(count)?)),
         ("make", []) => HeadDirective::Make,
-        ("read", [address]) => HeadDirective::Read(word(address)?),
-        ("write", [address, value]) => HeadDirective::Write(word(address)?, word(value)?),
+        ("read", [address]) => HeadDirective::Read(number(address)?),
+        ("write", [address, word]) => HeadDirective::Write(number(address)?, number(word)?),
         ("frame", _) => HeadDirective::Frame(parse_frame(heap, fields)?),
         ("state", []) => HeadDirective::State,
         ("attribute", [number]) => HeadDirective::Attribute(parse_attribute(number)?),
-        _ => return Ok(None),
+        _ => return Err(ScriptError::Directive),
     };
-    Ok(Some(directive))
+    Ok(directive)
 }
 
+// The number of an attribute that there is.
 fn parse_attribute(text: &str) -> Result<u16, ScriptError> {
-    let number = word(text)?;
-    if number > LAST_ATTRIBUTE {
-        return Err(ScriptError::Number);
+    let attribute = number(text)?;
+    match Attribute::of(attribute) {
+        Some(_) => Ok(attribute),
+        None => Err(ScriptError::Number),
     }
-    Ok(number)
 }
 
 // How many packet links are laid over a head.
 fn parse_links(text: &str) -> Result<Links, ScriptError> {
-    match word(text)? {
+    match number::<u16>(text)? {
         0 => Ok(Links::None),
         1 => Ok(Links::One),
         2 => Ok(Links::Two),
@@ -80,55 +80,53 @@ fn parse_links(text: &str) -> Result<Links, ScriptError> {
     }
 }
 
+// Numbers of busy polls.
 fn parse_busy(heap: Global, fields: &[&str]) -> Result<Vec<u16>, ScriptError> {
     if fields.len() > MOST_BUSY {
         return Err(ScriptError::TooMany);
     }
-    words(heap, fields)
+    each(heap, fields, number::<u16>)
 }
 
-// The marks of a field, behind those that came before.
-fn add_marks(marks: &mut Vec<bool>, field: &str) -> Result<(), ScriptError> {
-    for digit in field.bytes() {
-        match digit {
-            b'0' => marks.push(false)?,
-            b'1' => marks.push(true)?,
-            _ => return Err(ScriptError::Number),
-        }
-        if marks.len() > MOST_MARKS {
-            return Err(ScriptError::TooMany);
-        }
+// An acknowledgement mark: a digit that says whether an access is acknowledged.
+fn parse_mark(digit: u8) -> Result<bool, ScriptError> {
+    match digit {
+        b'0' => Ok(false),
+        b'1' => Ok(true),
+        _ => Err(ScriptError::Number),
     }
-    Ok(())
 }
 
+// The marks of all fields, a digit each. One mark more than a line may have is read, to see that there are too many.
 fn parse_marks(heap: Global, fields: &[&str]) -> Result<Vec<bool>, ScriptError> {
-    let mut marks = Vec::new(heap);
-    for field in fields {
-        add_marks(&mut marks, field)?;
+    let marks: Vec<bool> = fields
+        .iter()
+        .flat_map(|field| field.bytes())
+        .take(MOST_MARKS + 1)
+        .map(parse_mark)
+        .try_collect(heap)?;
+    if marks.len() > MOST_MARKS {
+        return Err(ScriptError::TooMany);
     }
     Ok(marks)
 }
 
-// A run of equal pixels, behind those that came before.
-fn add_run(pixels: &mut Vec<u16>, field: &str) -> Result<(), ScriptError> {
-    let Some((count, value)) = field.split_once('x') else {
-        return Err(ScriptError::Number);
-    };
-    let value = decimal_word(value)?;
-    for _ in 0..decimal_word(count)? {
-        if pixels.len() >= MOST_PIXELS {
-            return Err(ScriptError::TooMany);
-        }
-        pixels.push(value)?;
-    }
-    Ok(())
+// A run of equal pixels: how many there are, and the pixel.
+fn parse_run(field: &str) -> Result<(usize, u16), ScriptError> {
+    let (count, pixel) = field.split_once('x').ok_or(ScriptError::Number)?;
+    Ok((usize::from(decimal_word(count)?), decimal_word(pixel)?))
 }
 
+// The pixels of runs.
 fn parse_frame(heap: Global, fields: &[&str]) -> Result<Vec<u16>, ScriptError> {
     let mut pixels = Vec::new(heap);
     for field in fields {
-        add_run(&mut pixels, field)?;
+        let (count, pixel) = parse_run(field)?;
+        let length = pixels.len().saturating_add(count);
+        if length > MOST_PIXELS {
+            return Err(ScriptError::TooMany);
+        }
+        pixels.resize(length, pixel)?;
     }
     Ok(pixels)
 }

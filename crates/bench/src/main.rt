@@ -6,7 +6,7 @@ mod directive;
 mod error;
 mod fields;
 mod head_directive;
-mod hex;
+mod shown;
 mod station;
 mod value;
 
@@ -33,9 +33,8 @@ fn obey(
 
 fn main(rt: HostRuntime) -> anyhow::Result<()> {
     let mut station = Station::new(rt.alloc());
-    let mut number: u64 = 0;
-    for line in BufReader::new(rt.alloc(), rt.stdin())?.lines(rt.alloc()) {
-        number = number.saturating_add(1);
+    let lines = BufReader::new(rt.alloc(), rt.stdin())?.lines(rt.alloc());
+    for (number, line) in (1..=u64::MAX).zip(lines) {
         if let Err(error) = obey(&rt, &mut station, line) {
             eprintln!(rt; "error: line {number}: {error}")?;
             return Err(anyhow!("the script ends in an error"));

@@ -1,20 +1,16 @@
 // The camera head that a script works on, with the packet links over it, and the settings of the next one.
 use crate::error::ScriptError;
 use crate::head_directive::{HeadDirective, Setting};
-use crate::hex::HexWords;
-use camera::{Bus, Fault};
+use crate::shown::{Shown, hex_words, report};
+use camera::Bus;
 use head::{Head, HeadReport, HeadSettings};
 use stack::{Links, Stack};
 use std::alloc::Global;
 
-// The settings of the next head, and the head that was made last, under its links.
+// The settings of the next head and of the links over it, and the head that was made last, under its links.
 #[derive(Drop)]
 pub(crate) struct Station {
-    boot: u16,
-    serial: u64,
-    fpa: u16,
-    busy: Vec<u16>,
-    acks: Vec<bool>,
+    settings: HeadSettings,
     links: Links,
     stack: Option<Stack<Head>>,
 }
@@ -23,11 +19,13 @@ impl Station {
     // No head yet, and all settings 0 or empty.
     pub(crate) fn new(heap: Global) -> Station {
         Station {
-            boot: 0,
-            serial: 0,
-            fpa: 0,
-            busy: Vec::new(heap),
-            acks: Vec::new(heap),
+            settings: HeadSettings {
+                boot: 0,
+                serial: 0,
+                fpa: 0,
+                busy: Vec::new(heap),
+                acks: Vec::new(heap),
+            },
             links: Links::None,
             stack: None,
         }
@@ -40,96 +38,83 @@ impl Station {
         directive: HeadDirective,
     ) -> Result<(), ScriptError> {
         match directive {
-            HeadDirective::Set(setting) => self.set(setting),
-            HeadDirective::Make => self.make(rt)?,
-            HeadDirective::Read(address) => self.read(rt, address)?,
-            HeadDirective::Write(address, word) => self.write(rt, address, word)?,
-            HeadDirective::Frame(pixels) => self.load_frame(rt, pixels)?,
-            HeadDirective::State => self.print_state(rt)?,
-            HeadDirective::Attribute(number) => self.print_attribute(rt, number)?,
+            HeadDirective::Set(setting) => {
+                self.set(setting);
+                Ok(())
+            }
+            HeadDirective::Make => self.make(rt),
+            HeadDirective::Read(address) => {
+                let answer = self.stack()?.read(address);
+                report(rt, "read", answer.map(Shown).map_err(Shown))
+            }
+            HeadDirective::Write(address, word) => {
+                let answer = self.stack()?.write(address, word);
+                report(rt, "write", answer.map(|()| "ok").map_err(Shown))
+            }
+            HeadDirective::Frame(pixels) => self.load_frame(rt, pixels),
+            HeadDirective::State => self.print_state(rt),
+            HeadDirective::Attribute(number) => self.print_attribute(rt, number),
         }
-        Ok(())
     }
 
+    // The head under its links.
+    fn stack(&mut self) -> Result<&mut Stack<Head>, ScriptError> {
+        self.stack.as_mut().ok_or(ScriptError::NoHead)
+    }
+
+    // The head itself, to ask it what its accesses do not tell.
+    fn head(&self) -> Result<&Head, ScriptError> {
+        match &self.stack {
+            Some(stack) => Ok(stack.bus()),
+            None => Err(ScriptError::NoHead),
+        }
+    }
+
+    // Changes a setting of the next head.
     fn set(&mut self, setting: Setting) {
         match setting {
-            Setting::Boot(polls) => self.boot = polls,
-            Setting::Serial(number) => self.serial = number,
-            Setting::Fpa(temperature) => self.fpa = temperature,
-            Setting::Busy(polls) => self.busy = polls,
-            Setting::Acks(marks) => self.acks = marks,
+            Setting::Boot(polls) => self.settings.boot = polls,
+            Setting::Serial(number) => self.settings.serial = number,
+            Setting::Fpa(temperature) => self.settings.fpa = temperature,
+            Setting::Busy(polls) => self.settings.busy = polls,
+            Setting::Acks(marks) => self.settings.acks = marks,
             Setting::Links(count) => self.links = count,
         }
     }
 
+    // Makes a head from the settings, which stay for later heads.
     fn make(&mut self, rt: &HostRuntime) -> Result<(), ScriptError> {
-        let busy = self.busy.clone()?;
-        let acks = self.acks.clone()?;
         let settings = HeadSettings {
-            boot: self.boot,
-            serial: self.serial,
-            fpa: self.fpa,
-            busy,
-            acks,
+            busy: self.settings.busy.clone()?,
+            acks: self.settings.acks.clone()?,
+            ..self.settings
         };
-        match Head::new(settings) {
+        let outcome = match Head::new(settings) {
             Ok(head) => {
                 self.stack = Some(Stack::over(head, self.links));
-                println!(rt; "make ok")?;
+                Ok("ok")
             }
-            Err(refusal) => {
-                let number = refusal.number();
-                println!(rt; "make refused {number}")?;
-            }
-        }
-        Ok(())
-    }
-
-    fn read(&mut self, rt: &HostRuntime, address: u16) -> Result<(), ScriptError> {
-        let Some(bus) = &mut self.stack else {
-            return Err(ScriptError::NoHead);
+            Err(refusal) => Err(refusal.number()),
         };
-        match bus.read(address) {
-            Ok(word) => println!(rt; "read ok {word:04X}")?,
-            Err(fault) => print_fault(rt, "read", fault)?,
-        }
-        Ok(())
-    }
-
-    fn write(&mut self, rt: &HostRuntime, address: u16, word: u16) -> Result<(), ScriptError> {
-        let Some(bus) = &mut self.stack else {
-            return Err(ScriptError::NoHead);
-        };
-        match bus.write(address, word) {
-            Ok(()) => println!(rt; "write ok")?,
-            Err(fault) => print_fault(rt, "write", fault)?,
-        }
-        Ok(())
+        report(rt, "make", outcome)
     }
 
     // The sensor's frame goes to the head itself: the links are taken off for it and laid again.
     fn load_frame(&mut self, rt: &HostRuntime, pixels: Vec<u16>) -> Result<(), ScriptError> {
-        let Some(stack) = self.stack.take() else {
-            return Err(ScriptError::NoHead);
-        };
+        let stack = self.stack.take().ok_or(ScriptError::NoHead)?;
         let links = stack.links();
         let mut head = stack.into_bus();
         let answer = head.load_frame(pixels.as_slice());
         self.stack = Some(Stack::over(head, links));
-        match answer {
-            Ok(()) => println!(rt; "frame ok")?,
-            Err(refusal) => {
-                let number = refusal.number();
-                println!(rt; "frame refused {number}")?;
-            }
-        }
-        Ok(())
+        report(
+            rt,
+            "frame",
+            answer.map(|()| "ok").map_err(|refusal| refusal.number()),
+        )
     }
 
+    // Prints the head's state as plain values.
     fn print_state(&self, rt: &HostRuntime) -> Result<(), ScriptError> {
-        let Some(stack) = &self.stack else {
-            return Err(ScriptError::NoHead);
-        };
         let HeadReport {
             hung,
             boot,
@@ -138,33 +123,20 @@ impl Station {
             count,
             size,
             saved,
-        } = stack.bus().report();
-        let hung = yes_or_no(hung);
-        let saved = yes_or_no(saved);
+        } = self.head()?.report();
+        let hung = Shown(hung);
+        let saved = Shown(saved);
         println!(rt;
             "state session asleep hung {hung} boot {boot} busy {busy} code {code} count {count} length {size} saved {saved}"
         )?;
         Ok(())
     }
 
+    // Prints the words that an attribute shows.
     fn print_attribute(&self, rt: &HostRuntime, number: u16) -> Result<(), ScriptError> {
-        let Some(stack) = &self.stack else {
-            return Err(ScriptError::NoHead);
-        };
-        let words = stack.bus().attribute(rt.alloc(), number)?;
-        let shown = HexWords(words.as_slice());
+        let words = self.head()?.attribute(rt.alloc(), number)?;
+        let shown = hex_words(words.as_slice());
         println!(rt; "attribute {number} :{shown}")?;
         Ok(())
     }
-}
-
-fn print_fault(rt: &HostRuntime, name: &str, fault: Fault) -> Result<(), ScriptError> {
-    let number = fault.number();
-    let address = fault.address();
-    println!(rt; "{name} refused {number} at {address:04X}")?;
-    Ok(())
-}
-
-fn yes_or_no(flag: bool) -> &'static str {
-    if flag { "yes" } else { "no" }
 }

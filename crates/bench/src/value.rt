@@ -1,116 +1,76 @@
-// Values of the five kinds that are kept as words, as a script writes and prints them.
+// Values of the five kinds that are kept as words, as a script writes them.
 use crate::error::ScriptError;
-use crate::fields::{long_number, signed_number, wide_number, word};
-use std::alloc::Global;
-use std::fmt;
-use words::{Region, WordCodec, WrongSize};
+use crate::fields::{number, signed_number};
+use std::alloc::{AllocError, Global};
+use words::{Region, WordCodec};
 
-#[derive(Clone, Copy)]
-pub(crate) enum ValueKind {
-    Single,
-    Pair,
-    Signed,
-    Quad,
-    Region,
-}
-
-#[derive(Clone, Copy)]
-pub(crate) enum Value {
-    Single(u16),
-    Pair(u32),
-    Signed(i32),
-    Quad(u64),
-    Region(Region),
-}
-
-impl ValueKind {
-    // The kind of a name.
-    pub(crate) fn parse(text: &str) -> Result<ValueKind, ScriptError> {
-        match text {
-            "single" => Ok(ValueKind::Single),
-            "pair" => Ok(ValueKind::Pair),
-            "signed" => Ok(ValueKind::Signed),
-            "quad" => Ok(ValueKind::Quad),
-            "region" => Ok(ValueKind::Region),
-            _ => Err(ScriptError::Directive),
-        }
-    }
-
+// A kind of value that a script may write in a field.
+pub(crate) trait Kind: WordCodec {
     // The value of a field.
-    pub(crate) fn value(self, heap: Global, text: &str) -> Result<Value, ScriptError> {
-        match self {
-            ValueKind::Single => Ok(Value::Single(word(text)?)),
-            ValueKind::Pair => Ok(Value::Pair(wide_number(text)?)),
-            ValueKind::Signed => Ok(Value::Signed(signed_number(text)?)),
-            ValueKind::Quad => Ok(Value::Quad(long_number(text)?)),
-            ValueKind::Region => Ok(Value::Region(parse_region(heap, text)?)),
-        }
+    fn parse(heap: Global, text: &str) -> Result<Self, ScriptError>;
+
+    // The field of a value.
+    fn text(self, heap: Global) -> Result<String, AllocError>;
+}
+
+// A single is a number.
+impl Kind for u16 {
+    fn parse(_heap: Global, text: &str) -> Result<u16, ScriptError> {
+        number(text)
     }
 
-    // The value of words.
-    pub(crate) fn take(self, words: &[u16]) -> Result<Value, WrongSize> {
-        match self {
-            ValueKind::Single => Ok(Value::Single(<u16 as WordCodec>::take(words)?)),
-            ValueKind::Pair => Ok(Value::Pair(<u32 as WordCodec>::take(words)?)),
-            ValueKind::Signed => Ok(Value::Signed(<i32 as WordCodec>::take(words)?)),
-            ValueKind::Quad => Ok(Value::Quad(<u64 as WordCodec>::take(words)?)),
-            ValueKind::Region => Ok(Value::Region(<Region as WordCodec>::take(words)?)),
-        }
+    fn text(self, heap: Global) -> Result<String, AllocError> {
+        self.to_string(heap)
     }
 }
 
-impl Value {
-    // The words of a value.
-    pub(crate) fn put(self, heap: Global) -> Result<Vec<u16>, ScriptError> {
-        match self {
-            Value::Single(value) => words_of(heap, value),
-            Value::Pair(value) => words_of(heap, value),
-            Value::Signed(value) => words_of(heap, value),
-            Value::Quad(value) => words_of(heap, value),
-            Value::Region(value) => words_of(heap, value),
-        }
+// A pair is a number.
+impl Kind for u32 {
+    fn parse(_heap: Global, text: &str) -> Result<u32, ScriptError> {
+        number(text)
+    }
+
+    fn text(self, heap: Global) -> Result<String, AllocError> {
+        self.to_string(heap)
     }
 }
 
-// The words of a value of any kind.
-fn words_of<C: WordCodec>(heap: Global, value: C) -> Result<Vec<u16>, ScriptError> {
-    let mut words = vec![in heap; 0; C::word_count()]?;
-    match value.put(words.as_mut_slice()) {
-        Ok(()) => Ok(words),
-        Err(WrongSize) => Err(ScriptError::Number),
+// A signed pair is a number with or without a minus sign.
+impl Kind for i32 {
+    fn parse(_heap: Global, text: &str) -> Result<i32, ScriptError> {
+        signed_number(text)
+    }
+
+    fn text(self, heap: Global) -> Result<String, AllocError> {
+        self.to_string(heap)
     }
 }
 
-// A region is written as its four numbers with commas between them.
-fn parse_region(heap: Global, text: &str) -> Result<Region, ScriptError> {
-    let numbers: Vec<&str> = text.split(',').collect(heap)?;
-    let [start_column, start_row, end_column, end_row] = numbers.as_slice() else {
-        return Err(ScriptError::Number);
-    };
-    Ok(Region {
-        start_column: word(start_column)?,
-        start_row: word(start_row)?,
-        end_column: word(end_column)?,
-        end_row: word(end_row)?,
-    })
+// A quad is a number.
+impl Kind for u64 {
+    fn parse(_heap: Global, text: &str) -> Result<u64, ScriptError> {
+        number(text)
+    }
+
+    fn text(self, heap: Global) -> Result<String, AllocError> {
+        self.to_string(heap)
+    }
 }
 
-impl fmt::Display for Value {
-    fn fmt<W: fmt::Write>(&self, f: &mut fmt::Formatter<W>) -> fmt::Result {
-        match *self {
-            Value::Single(value) => write!(f, "{value}"),
-            Value::Pair(value) => write!(f, "{value}"),
-            Value::Signed(value) => write!(f, "{value}"),
-            Value::Quad(value) => write!(f, "{value}"),
-            Value::Region(region) => {
-                let Region {
-                    start_column,
-                    start_row,
-                    end_column,
-                    end_row,
-                } = region;
-                write!(f, "{start_column},{start_row},{end_column},{end_row}")
-            }
-        }
+// A region is its four numbers, in the order of its words, with commas between them.
+impl Kind for Region {
+    fn parse(heap: Global, text: &str) -> Result<Region, ScriptError> {
+        let numbers: Vec<u16> = text.split(',').map(number::<u16>).try_collect(heap)?;
+        Region::take(numbers.as_slice()).map_err(|_| ScriptError::Number)
+    }
+
+    fn text(self, heap: Global) -> Result<String, AllocError> {
+        let Region {
+            start_column,
+            start_row,
+            end_column,
+            end_row,
+        } = self;
+        format!(in heap; "{start_column},{start_row},{end_column},{end_row}")
     }
 }

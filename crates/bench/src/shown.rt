@@ -1,0 +1,94 @@
+// What came of a directive, as it is printed.
+use crate::error::ScriptError;
+use camera::Fault;
+use packet::{Access, Denial, Reply};
+use std::fmt;
+use std::fmt::{Display, HasDigits};
+
+// A value in the form in which it is printed.
+#[derive(Drop)]
+pub(crate) struct Shown<T>(pub(crate) T);
+
+// Bytes or words, each in so many capital hexadecimal digits, with a blank before.
+#[derive(Drop)]
+pub(crate) struct Hex<'a, T, const DIGITS: usize>(&'a [T]);
+
+// Bytes have two digits each.
+pub(crate) fn hex_bytes(bytes: &[u8]) -> Hex<'_, u8, 2> {
+    Hex(bytes)
+}
+
+// Words have four digits each.
+pub(crate) fn hex_words(words: &[u16]) -> Hex<'_, u16, 4> {
+    Hex(words)
+}
+
+impl<'a, T: HasDigits + Copy, const DIGITS: usize> Display for Hex<'a, T, DIGITS> {
+    fn fmt<W: fmt::Write>(&self, f: &mut fmt::Formatter<W>) -> fmt::Result {
+        for item in self.0 {
+            write!(f, " {item:0DIGITS$X}")?;
+        }
+        Ok(())
+    }
+}
+
+// What a request asks for.
+impl Display for Shown<Access> {
+    fn fmt<W: fmt::Write>(&self, f: &mut fmt::Formatter<W>) -> fmt::Result {
+        match self.0 {
+            Access::Read { address } => write!(f, "read {address:04X}"),
+            Access::Write { address, word } => write!(f, "write {address:04X} {word:04X}"),
+        }
+    }
+}
+
+// What a reply answers.
+impl Display for Shown<Reply> {
+    fn fmt<W: fmt::Write>(&self, f: &mut fmt::Formatter<W>) -> fmt::Result {
+        match self.0 {
+            Reply::Read(Ok(word)) => write!(f, "word {word:04X}"),
+            Reply::Write(Ok(())) => write!(f, "done"),
+            Reply::Read(Err(denial)) | Reply::Write(Err(denial)) => match denial {
+                Denial::NotAcknowledged => write!(f, "no-ack"),
+                Denial::NoRegister => write!(f, "no-register"),
+            },
+        }
+    }
+}
+
+// A fault: its number, and the address of the access that met it.
+impl Display for Shown<Fault> {
+    fn fmt<W: fmt::Write>(&self, f: &mut fmt::Formatter<W>) -> fmt::Result {
+        let number = self.0.number();
+        let address = self.0.address();
+        write!(f, "{number} at {address:04X}")
+    }
+}
+
+// A word that was read on the bus.
+impl Display for Shown<u16> {
+    fn fmt<W: fmt::Write>(&self, f: &mut fmt::Formatter<W>) -> fmt::Result {
+        let word = self.0;
+        write!(f, "ok {word:04X}")
+    }
+}
+
+// Whether something is so.
+impl Display for Shown<bool> {
+    fn fmt<W: fmt::Write>(&self, f: &mut fmt::Formatter<W>) -> fmt::Result {
+        f.write_str(if self.0 { "yes" } else { "no" })
+    }
+}
+
+// Prints the name of a directive, and what it answers or that it is refused, and why.
+pub(crate) fn report<A: Display + Drop, R: Display + Drop>(
+    rt: &HostRuntime,
+    name: &str,
+    outcome: Result<A, R>,
+) -> Result<(), ScriptError> {
+    match outcome {
+        Ok(answer) => println!(rt; "{name} {answer}")?,
+        Err(refusal) => println!(rt; "{name} refused {refusal}")?,
+    }
+    Ok(())
+}
