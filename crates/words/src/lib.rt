@@ -88,7 +88,8 @@ pub trait WordCodec: Copy {
     // the value of words
     ghost decoded: { List ℕ → Self };
 
-    // How many words a value has.
+    // How many words a value has. It is a method, since callers know it as one, and an associated constant beside it would
+    // be given by each implementation once more, with a ghost member of its name.
     fn word_count() -> usize
         ensures value { result ≡ count };
 
