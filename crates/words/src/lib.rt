@@ -3,8 +3,6 @@
 
 ghost use Rattle.std.specs.Prelude.{◌≡◌, ℕ, ◌+◌, ◌*◌, ◌/◌, ◌^◌, ◌<◌, ◌≤◌, Bool, List, length, IfOk, FitsSigned, int_le, nat_le};
 ghost use Rattle.std.specs.Int.{w32};
-ghost use Rattle.std.specs.Ordering.{partial_le};
-ghost use Rattle.std.proofs.Common.{rules};
 ghost use Rattle.words.specs.Code.{byte_of, code_of};
 ghost use Rattle.words.specs.Codecs.{IsCodec, number_words_codec, region_words_codec, signed_words_codec};
 ghost use Rattle.words.specs.Order.{IsOrder, between, int_le_order, nat_le_order};
@@ -88,7 +86,8 @@ pub trait WordCodec: Copy {
     // the value of words
     ghost decoded: { List ℕ → Self };
 
-    // How many words a value has.
+    // How many words a value has. It is a method, since callers know it as one, and an associated constant beside it would
+    // be given by each implementation once more, with a ghost member of its name.
     fn word_count() -> usize
         ensures value { result ≡ count };
 
@@ -257,20 +256,15 @@ impl WordCodec for Region {
     }
 }
 
-// A total order of values: any two can be compared.
-pub trait TotalOrder: PartialOrd {
+// A total order of values: any two can be compared. One body of `at_most` for all types would go by `<=`, and so ask of each
+// type with a total order that it is `PartialOrd` too; each implementation writes its line.
+pub trait TotalOrder {
     // whether a value is below another or the same
     ghost leq: { Self → Self → Bool };
 
     // Whether the value is below another or the same.
     fn at_most(&self, other: &Self) -> bool
-        ensures answer { result ≡ leq self.now other.now }
-    {
-        *self <= *other
-    }
-
-    // it is the order that `<=` goes by
-    ghost compared: { (a b : Self) → partial_le Self.partial_cmp a b ≡ leq a b };
+        ensures answer { result ≡ leq self.now other.now };
 
     // it is reflexive, antisymmetric, transitive and total (specs/Order.antt)
     ghost order: { IsOrder leq };
@@ -280,36 +274,44 @@ pub trait TotalOrder: PartialOrd {
 impl TotalOrder for u16 {
     ghost leq = { nat_le };
 
-    ghost compared = { Prim.search rules };
-
     ghost order = { nat_le_order };
+
+    fn at_most(&self, other: &u16) -> bool {
+        *self <= *other
+    }
 }
 
 // The order of numbers.
 impl TotalOrder for u32 {
     ghost leq = { nat_le };
 
-    ghost compared = { Prim.search rules };
-
     ghost order = { nat_le_order };
+
+    fn at_most(&self, other: &u32) -> bool {
+        *self <= *other
+    }
 }
 
 // The order of signed numbers: those below zero come first.
 impl TotalOrder for i32 {
     ghost leq = { int_le };
 
-    ghost compared = { Prim.search rules };
-
     ghost order = { int_le_order };
+
+    fn at_most(&self, other: &i32) -> bool {
+        *self <= *other
+    }
 }
 
 // The order of numbers.
 impl TotalOrder for u64 {
     ghost leq = { nat_le };
 
-    ghost compared = { Prim.search rules };
-
     ghost order = { nat_le_order };
+
+    fn at_most(&self, other: &u64) -> bool {
+        *self <= *other
+    }
 }
 
 // Whether a value is in a range. Both ends are in it.
