@@ -2,12 +2,14 @@
 use crate::directive::Directive;
 use crate::error::ScriptError;
 use crate::fields::LARGEST_BUFFER;
-use crate::shown::{Shown, hex_bytes, hex_words, report};
+use crate::shown::{Hex, Shown, report};
 use crate::station::Station;
+use crate::value::ValueDirective;
 use crc::checksum;
 use packet::{PacketRefusal, pack_reply, pack_request, unpack_reply, unpack_request};
 use words::WrongSize;
 
+// Carries out a directive of any kind.
 pub(crate) fn carry_out(
     rt: &HostRuntime,
     station: &mut Station,
@@ -18,39 +20,27 @@ pub(crate) fn carry_out(
             let crc = checksum(bytes.as_slice());
             println!(rt; "crc {crc:04X}")?;
         }
-        Directive::Request(access, size) => print_packet(
-            rt,
-            "request",
-            size,
-            |buffer| pack_request(access, buffer),
-        )?,
-        Directive::Reply(reply, size) => print_packet(
-            rt,
-            "reply",
-            size,
-            |buffer| pack_reply(reply, buffer),
-        )?,
+        Directive::Request(access, size) => {
+            print_packet(rt, "request", size, |buffer| pack_request(access, buffer))?;
+        }
+        Directive::Reply(reply, size) => {
+            print_packet(rt, "reply", size, |buffer| pack_reply(reply, buffer))?;
+        }
         Directive::UnpackRequest(bytes) => {
-            let answer = unpack_request(bytes.as_slice());
-            report(
-                rt,
-                "unpack-request",
-                answer.map(Shown).map_err(PacketRefusal::number),
-            )?;
+            let answer = unpack_request(bytes.as_slice()).map(Shown);
+            report(rt, "unpack-request", answer.map_err(PacketRefusal::number))?;
         }
         Directive::UnpackReply(function, bytes) => {
-            let answer = unpack_reply(function, bytes.as_slice());
-            report(
-                rt,
-                "unpack-reply",
-                answer.map(Shown).map_err(PacketRefusal::number),
-            )?;
+            let answer = unpack_reply(function, bytes.as_slice()).map(Shown);
+            report(rt, "unpack-reply", answer.map_err(PacketRefusal::number))?;
         }
-        Directive::Put(words) => {
-            let shown = hex_words(words.as_slice());
+        Directive::Value(ValueDirective::Put(words)) => {
+            let shown = Hex::<u16, 4>(words.as_slice());
             println!(rt; "put :{shown}")?;
         }
-        Directive::Take(value) => report(rt, "take", value.map_err(WrongSize::number))?,
+        Directive::Value(ValueDirective::Take(value)) => {
+            report(rt, "take", value.map_err(WrongSize::number))?;
+        }
         Directive::Head(directive) => station.carry_out(rt, directive)?,
     }
     Ok(())
@@ -71,7 +61,8 @@ fn print_packet<P: FnOnce(&mut [u8]) -> Result<usize, PacketRefusal>>(
     if let (Ok(length), None) = (written, size) {
         buffer.truncate(length);
     }
-    let shown = hex_bytes(buffer.as_slice());
+    // not by `report`: the buffer is shown behind a refusal too
+    let shown = Hex::<u8, 2>(buffer.as_slice());
     match written {
         Ok(_) => println!(rt; "{name} :{shown}")?,
         Err(refusal) => {

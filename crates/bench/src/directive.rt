@@ -2,12 +2,11 @@
 use crate::error::ScriptError;
 use crate::fields::{byte, each, number, size};
 use crate::head_directive::{HeadDirective, parse_head};
-use crate::value::Kind;
+use crate::value::{ValueDirective, parse_value};
 use packet::{Access, Denial, Function, Reply};
 use std::alloc::Global;
-use words::{Region, WrongSize};
 
-// A value's kind is known only while its directive is read: what is kept of the value is what is printed.
+// What a line asks for.
 #[derive(Drop)]
 pub(crate) enum Directive {
     // the checksum of bytes
@@ -20,10 +19,8 @@ pub(crate) enum Directive {
     UnpackRequest(Vec<u8>),
     // bytes read as the reply to a function
     UnpackReply(Function, Vec<u8>),
-    // the words of a value
-    Put(Vec<u16>),
-    // the value of words, as a script writes it
-    Take(Result<String, WrongSize>),
+    // something of a value that is kept as words
+    Value(ValueDirective),
     // something of the camera head
     Head(HeadDirective),
 }
@@ -38,7 +35,8 @@ pub(crate) fn parse_line(heap: Global, line: &str) -> Result<Option<Directive>, 
     }
 }
 
-// The directive of a name and the fields behind it.
+// The directive of a name and the fields behind it. The two stay apart, since one pattern takes both and the fields alone
+// are read on.
 fn parse(heap: Global, name: &str, fields: &[&str]) -> Result<Directive, ScriptError> {
     match (name, fields) {
         ("crc", _) => Ok(Directive::Crc(each(heap, fields, byte)?)),
@@ -49,7 +47,9 @@ fn parse(heap: Global, name: &str, fields: &[&str]) -> Result<Directive, ScriptE
             parse_function(function)?,
             each(heap, rest, byte)?,
         )),
-        ("put" | "take", [kind, rest @ ..]) => parse_value(heap, name, kind, rest),
+        ("put" | "take", [kind, rest @ ..]) => Ok(Directive::Value(parse_value(
+            heap, name, kind, rest,
+        )?)),
         _ => Ok(Directive::Head(parse_head(heap, name, fields)?)),
     }
 }
@@ -92,6 +92,7 @@ fn parse_reply(fields: &[&str]) -> Result<Directive, ScriptError> {
     Ok(Directive::Reply(reply, parse_size(rest)?))
 }
 
+// The function that a packet replies to.
 fn parse_function(text: &str) -> Result<Function, ScriptError> {
     match text {
         "read" => Ok(Function::Read),
@@ -100,52 +101,11 @@ fn parse_function(text: &str) -> Result<Function, ScriptError> {
     }
 }
 
+// Why an access was not carried out.
 fn parse_denial(text: &str) -> Result<Denial, ScriptError> {
     match text {
         "no-ack" => Ok(Denial::NotAcknowledged),
         "no-register" => Ok(Denial::NoRegister),
-        _ => Err(ScriptError::Directive),
-    }
-}
-
-// The directive of a name and a kind's name, and of the fields behind them.
-fn parse_value(
-    heap: Global,
-    name: &str,
-    kind: &str,
-    fields: &[&str],
-) -> Result<Directive, ScriptError> {
-    match kind {
-        "single" => parse_kind::<u16>(heap, name, fields),
-        "pair" => parse_kind::<u32>(heap, name, fields),
-        "signed" => parse_kind::<i32>(heap, name, fields),
-        "quad" => parse_kind::<u64>(heap, name, fields),
-        "region" => parse_kind::<Region>(heap, name, fields),
-        _ => Err(ScriptError::Directive),
-    }
-}
-
-// The directive of a name, on a value of a kind.
-fn parse_kind<C: Kind>(
-    heap: Global,
-    name: &str,
-    fields: &[&str],
-) -> Result<Directive, ScriptError> {
-    match (name, fields) {
-        ("put", [text]) => {
-            let mut words = vec![in heap; 0; C::word_count()]?;
-            match C::parse(heap, text)?.put(words.as_mut_slice()) {
-                Ok(()) => Ok(Directive::Put(words)),
-                Err(WrongSize) => Err(ScriptError::Number),
-            }
-        }
-        ("take", _) => {
-            let words = each(heap, fields, number::<u16>)?;
-            match C::take(words.as_slice()) {
-                Ok(value) => Ok(Directive::Take(Ok(value.text(heap)?))),
-                Err(refusal) => Ok(Directive::Take(Err(refusal))),
-            }
-        }
         _ => Err(ScriptError::Directive),
     }
 }

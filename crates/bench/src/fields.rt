@@ -9,35 +9,32 @@ use std::num::TryFromIntError;
 pub(crate) const LARGEST_BUFFER: usize = 1024;
 
 // A number that fits its type, in digits of a radix and nothing else.
-fn in_radix<N: TryFrom<u64, Error = TryFromIntError>>(
-    digits: &str,
-    radix: u32,
-) -> Result<N, ScriptError>
+fn in_radix<N: TryFrom<u64, Error = TryFromIntError>>(digits: &str, radix: u32) -> Option<N>
     requires least { 2 ≤ radix }
     requires greatest { radix ≤ 36 }
 {
-    match u64::from_str_radix(digits, radix) {
-        // a sign is no digit here
-        Ok(number) if !digits.contains('+') => {
-            N::try_from(number).map_err(|_| ScriptError::Number)
-        }
-        _ => Err(ScriptError::Number),
+    // a sign is no digit here
+    if digits.contains('+') {
+        return None;
     }
+    let number = u64::from_str_radix(digits, radix).ok()?;
+    N::try_from(number).ok()
 }
 
 // A number that fits its type: decimal digits, or hexadecimal ones after 0x.
 pub(crate) fn number<N: TryFrom<u64, Error = TryFromIntError>>(
     text: &str,
 ) -> Result<N, ScriptError> {
-    match text.strip_prefix("0x") {
+    let number = match text.strip_prefix("0x") {
         Some(digits) => in_radix(digits, 16),
         None => in_radix(text, 10),
-    }
+    };
+    number.ok_or(ScriptError::Number)
 }
 
 // A number of sixteen bits in decimal digits alone.
 pub(crate) fn decimal_word(text: &str) -> Result<u16, ScriptError> {
-    in_radix(text, 10)
+    in_radix(text, 10).ok_or(ScriptError::Number)
 }
 
 // A signed number of 32 bits: a number, or one behind a minus sign.
@@ -66,7 +63,7 @@ pub(crate) fn byte(text: &str) -> Result<u8, ScriptError> {
     if text.len() != 2 {
         return Err(ScriptError::Byte);
     }
-    in_radix(text, 16).map_err(|_| ScriptError::Byte)
+    in_radix(text, 16).ok_or(ScriptError::Byte)
 }
 
 // What each of the fields is read as.

@@ -64,10 +64,10 @@ pub(crate) fn parse_head(
 // The number of an attribute that there is.
 fn parse_attribute(text: &str) -> Result<u16, ScriptError> {
     let attribute = number(text)?;
-    match Attribute::of(attribute) {
-        Some(_) => Ok(attribute),
-        None => Err(ScriptError::Number),
+    if Attribute::of(attribute).is_none() {
+        return Err(ScriptError::Number);
     }
+    Ok(attribute)
 }
 
 // How many packet links are laid over a head.

@@ -4,6 +4,7 @@ use camera::Fault;
 use packet::{Access, Denial, Reply};
 use std::fmt;
 use std::fmt::{Display, HasDigits};
+use words::Region;
 
 // A value in the form in which it is printed.
 #[derive(Drop)]
@@ -11,17 +12,7 @@ pub(crate) struct Shown<T>(pub(crate) T);
 
 // Bytes or words, each in so many capital hexadecimal digits, with a blank before.
 #[derive(Drop)]
-pub(crate) struct Hex<'a, T, const DIGITS: usize>(&'a [T]);
-
-// Bytes have two digits each.
-pub(crate) fn hex_bytes(bytes: &[u8]) -> Hex<'_, u8, 2> {
-    Hex(bytes)
-}
-
-// Words have four digits each.
-pub(crate) fn hex_words(words: &[u16]) -> Hex<'_, u16, 4> {
-    Hex(words)
-}
+pub(crate) struct Hex<'a, T, const DIGITS: usize>(pub(crate) &'a [T]);
 
 impl<'a, T: HasDigits + Copy, const DIGITS: usize> Display for Hex<'a, T, DIGITS> {
     fn fmt<W: fmt::Write>(&self, f: &mut fmt::Formatter<W>) -> fmt::Result {
@@ -47,10 +38,10 @@ impl Display for Shown<Reply> {
     fn fmt<W: fmt::Write>(&self, f: &mut fmt::Formatter<W>) -> fmt::Result {
         match self.0 {
             Reply::Read(Ok(word)) => write!(f, "word {word:04X}"),
-            Reply::Write(Ok(())) => write!(f, "done"),
+            Reply::Write(Ok(())) => f.write_str("done"),
             Reply::Read(Err(denial)) | Reply::Write(Err(denial)) => match denial {
-                Denial::NotAcknowledged => write!(f, "no-ack"),
-                Denial::NoRegister => write!(f, "no-register"),
+                Denial::NotAcknowledged => f.write_str("no-ack"),
+                Denial::NoRegister => f.write_str("no-register"),
             },
         }
     }
@@ -65,11 +56,16 @@ impl Display for Shown<Fault> {
     }
 }
 
-// A word that was read on the bus.
-impl Display for Shown<u16> {
+// A region, as a script writes it.
+impl Display for Shown<Region> {
     fn fmt<W: fmt::Write>(&self, f: &mut fmt::Formatter<W>) -> fmt::Result {
-        let word = self.0;
-        write!(f, "ok {word:04X}")
+        let Region {
+            start_column,
+            start_row,
+            end_column,
+            end_row,
+        } = self.0;
+        write!(f, "{start_column},{start_row},{end_column},{end_row}")
     }
 }
 
@@ -77,6 +73,17 @@ impl Display for Shown<u16> {
 impl Display for Shown<bool> {
     fn fmt<W: fmt::Write>(&self, f: &mut fmt::Formatter<W>) -> fmt::Result {
         f.write_str(if self.0 { "yes" } else { "no" })
+    }
+}
+
+// The word that a read on the bus was answered with.
+#[derive(Clone, Copy)]
+pub(crate) struct WordRead(pub(crate) u16);
+
+impl Display for WordRead {
+    fn fmt<W: fmt::Write>(&self, f: &mut fmt::Formatter<W>) -> fmt::Result {
+        let word = self.0;
+        write!(f, "ok {word:04X}")
     }
 }
 

@@ -1,7 +1,7 @@
 // The camera head that a script works on, with the packet links over it, and the settings of the next one.
 use crate::error::ScriptError;
 use crate::head_directive::{HeadDirective, Setting};
-use crate::shown::{Shown, hex_words, report};
+use crate::shown::{Hex, Shown, WordRead, report};
 use camera::Bus;
 use head::{Head, HeadReport, HeadSettings};
 use stack::{Links, Stack};
@@ -45,7 +45,7 @@ impl Station {
             HeadDirective::Make => self.make(rt),
             HeadDirective::Read(address) => {
                 let answer = self.stack()?.read(address);
-                report(rt, "read", answer.map(Shown).map_err(Shown))
+                report(rt, "read", answer.map(WordRead).map_err(Shown))
             }
             HeadDirective::Write(address, word) => {
                 let answer = self.stack()?.write(address, word);
@@ -64,10 +64,8 @@ impl Station {
 
     // The head itself, to ask it what its accesses do not tell.
     fn head(&self) -> Result<&Head, ScriptError> {
-        match &self.stack {
-            Some(stack) => Ok(stack.bus()),
-            None => Err(ScriptError::NoHead),
-        }
+        let stack = self.stack.as_ref().ok_or(ScriptError::NoHead)?;
+        Ok(stack.bus())
     }
 
     // Changes a setting of the next head.
@@ -135,7 +133,7 @@ impl Station {
     // Prints the words that an attribute shows.
     fn print_attribute(&self, rt: &HostRuntime, number: u16) -> Result<(), ScriptError> {
         let words = self.head()?.attribute(rt.alloc(), number)?;
-        let shown = hex_words(words.as_slice());
+        let shown = Hex::<u16, 4>(words.as_slice());
         println!(rt; "attribute {number} :{shown}")?;
         Ok(())
     }

@@ -1,76 +1,77 @@
-// Values of the five kinds that are kept as words, as a script writes them.
+// Values of the five kinds that are kept as words, as a script writes them and as they are printed.
 use crate::error::ScriptError;
-use crate::fields::{number, signed_number};
-use std::alloc::{AllocError, Global};
-use words::{Region, WordCodec};
+use crate::fields::{each, number, signed_number};
+use crate::shown::Shown;
+use std::alloc::Global;
+use std::convert::identity;
+use std::fmt::Display;
+use words::{Region, WordCodec, WrongSize};
 
-// A kind of value that a script may write in a field.
-pub(crate) trait Kind: WordCodec {
-    // The value of a field.
-    fn parse(heap: Global, text: &str) -> Result<Self, ScriptError>;
-
-    // The field of a value.
-    fn text(self, heap: Global) -> Result<String, AllocError>;
+// What a line asks of a value. The value's kind is known only while the line is read: what is kept is what is printed.
+#[derive(Drop)]
+pub(crate) enum ValueDirective {
+    // the words of a value
+    Put(Vec<u16>),
+    // the value of words, as a script writes it
+    Take(Result<String, WrongSize>),
 }
 
-// A single is a number.
-impl Kind for u16 {
-    fn parse(_heap: Global, text: &str) -> Result<u16, ScriptError> {
-        number(text)
-    }
-
-    fn text(self, heap: Global) -> Result<String, AllocError> {
-        self.to_string(heap)
-    }
-}
-
-// A pair is a number.
-impl Kind for u32 {
-    fn parse(_heap: Global, text: &str) -> Result<u32, ScriptError> {
-        number(text)
-    }
-
-    fn text(self, heap: Global) -> Result<String, AllocError> {
-        self.to_string(heap)
-    }
-}
-
-// A signed pair is a number with or without a minus sign.
-impl Kind for i32 {
-    fn parse(_heap: Global, text: &str) -> Result<i32, ScriptError> {
-        signed_number(text)
-    }
-
-    fn text(self, heap: Global) -> Result<String, AllocError> {
-        self.to_string(heap)
+// The directive of a name and a kind's name, and of the fields behind them. Each kind has a way in which its values are
+// written and one in which they are shown.
+pub(crate) fn parse_value(
+    heap: Global,
+    name: &str,
+    kind: &str,
+    fields: &[&str],
+) -> Result<ValueDirective, ScriptError> {
+    match kind {
+        "single" => parse_kind(heap, name, fields, number::<u16>, identity),
+        "pair" => parse_kind(heap, name, fields, number::<u32>, identity),
+        "signed" => parse_kind(heap, name, fields, signed_number, identity),
+        "quad" => parse_kind(heap, name, fields, number::<u64>, identity),
+        "region" => parse_kind(heap, name, fields, |text| parse_region(heap, text), Shown),
+        _ => Err(ScriptError::Directive),
     }
 }
 
-// A quad is a number.
-impl Kind for u64 {
-    fn parse(_heap: Global, text: &str) -> Result<u64, ScriptError> {
-        number(text)
-    }
-
-    fn text(self, heap: Global) -> Result<String, AllocError> {
-        self.to_string(heap)
+// The directive of a name and fields, on values of a kind that are written and shown in a way.
+fn parse_kind<C, D, P, S>(
+    heap: Global,
+    name: &str,
+    fields: &[&str],
+    parse: P,
+    shown: S,
+) -> Result<ValueDirective, ScriptError>
+where
+    C: WordCodec,
+    D: Display + Drop,
+    P: Fn(&str) -> Result<C, ScriptError>,
+    S: Fn(C) -> D,
+    requires parse { P.IsAlwaysCallable parse }
+    requires shown { S.IsAlwaysCallable shown }
+{
+    match (name, fields) {
+        ("put", [text]) => {
+            let value = parse(text)?;
+            let mut words = vec![in heap; 0; C::word_count()]?;
+            match value.put(words.as_mut_slice()) {
+                Ok(()) => Ok(ValueDirective::Put(words)),
+                Err(WrongSize) => Err(ScriptError::Number),
+            }
+        }
+        ("take", _) => {
+            let words = each(heap, fields, number::<u16>)?;
+            match C::take(words.as_slice()) {
+                Ok(value) => Ok(ValueDirective::Take(Ok(shown(value).to_string(heap)?))),
+                Err(refusal) => Ok(ValueDirective::Take(Err(refusal))),
+            }
+        }
+        _ => Err(ScriptError::Directive),
     }
 }
 
 // A region is its four numbers, in the order of its words, with commas between them.
-impl Kind for Region {
-    fn parse(heap: Global, text: &str) -> Result<Region, ScriptError> {
-        let numbers: Vec<u16> = text.split(',').map(number::<u16>).try_collect(heap)?;
-        Region::take(numbers.as_slice()).map_err(|_| ScriptError::Number)
-    }
-
-    fn text(self, heap: Global) -> Result<String, AllocError> {
-        let Region {
-            start_column,
-            start_row,
-            end_column,
-            end_row,
-        } = self;
-        format!(in heap; "{start_column},{start_row},{end_column},{end_row}")
-    }
+fn parse_region(heap: Global, text: &str) -> Result<Region, ScriptError> {
+    let numbers: Vec<u16> = text.split(',').map(number::<u16>).try_collect(heap)?;
+    Region::take(numbers.as_slice()).map_err(|_| ScriptError::Number)
 }
