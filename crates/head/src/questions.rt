@@ -9,7 +9,7 @@ use crate::memory::Head;
 use std::alloc::{AllocError, Global};
 
 // The camera's state as plain values.
-#[derive(Clone, Copy)]
+#[derive(Clone, Copy, Debug, PartialEq, Eq)]
 pub struct HeadReport {
     pub hung: bool,
     // boot polls left
