@@ -1,4 +1,3 @@
-pub mod Showing
 pub mod Tables
 pub mod Starting
 pub mod Made

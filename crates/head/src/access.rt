@@ -54,8 +54,8 @@ impl Head {
             Register::Power | Register::Command => 0,
             Register::Status => 256 * u16::from(code_byte(self.inner.code)) + IDLE_STATUS,
             Register::Length => self.inner.size,
-            Register::Data(place) => word_at(&self.inner.data, place as usize),
-            Register::Block(place) => word_at(&self.inner.block, place as usize),
+            Register::Data(place) => word_at(&self.inner.data, usize::from(place)),
+            Register::Block(place) => word_at(&self.inner.block, usize::from(place)),
         }
     }
 
@@ -87,8 +87,8 @@ impl Head {
             Register::Power | Register::Status => {}
             Register::Command => self.execute(word),
             Register::Length => self.inner.size = word,
-            Register::Data(place) => put(&mut self.inner.data, place as usize, word),
-            Register::Block(place) => put(&mut self.inner.block, place as usize, word),
+            Register::Data(place) => put(&mut self.inner.data, usize::from(place), word),
+            Register::Block(place) => put(&mut self.inner.block, usize::from(place), word),
         }
     }
 

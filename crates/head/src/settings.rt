@@ -50,6 +50,6 @@ impl HeadSettings {
         self.boot <= MOST_POLLS
             && self.busy.len() <= MOST_COMMANDS
             && self.acks.len() <= MOST_MARKS
-            && all_at_most(self.busy.as_slice(), MOST_POLLS)
+            && all_at_most(&self.busy, MOST_POLLS)
     }
 }
