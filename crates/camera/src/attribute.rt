@@ -2,24 +2,28 @@
 ghost use Rattle.camera.specs.Attributes.{attribute_at, has, is_saved, is_settable, size_of};
 ghost use Rattle.std.specs.Prelude.{◌≡◌, ◌≤◌};
 
-// What a command does: it gets or sets an attribute, or runs what the attribute stands for.
-#[derive(Clone, Copy)]
+use crate::command::Command;
+
+// What a command does: it gets or sets an attribute, or runs what the attribute stands for. The numbers are the type bits
+// of command words.
+#[derive(Clone, Copy, Debug, PartialEq, Eq)]
 pub enum Kind {
-    Get,
-    Set,
-    Run,
+    Get = 0,
+    Set = 1,
+    Run = 2,
 }
 
-// Which kinds of command an attribute has.
-#[derive(Clone, Copy)]
+// Which kinds of command an attribute has. Three named answers and no set of kinds: std's sets lie on the heap, of which a
+// camera has none, and a set of bits would say less.
+#[derive(Clone, Copy, Debug, PartialEq, Eq)]
 pub struct Kinds {
     pub gets: bool,
     pub sets: bool,
     pub runs: bool,
 }
 
-// The attributes by name, in the order of their numbers.
-#[derive(Clone, Copy)]
+// The attributes by name, in the order of their numbers: `name as u16` is the number.
+#[derive(Clone, Copy, Debug, PartialEq, Eq)]
 pub enum Name {
     GainControl,
     Status,
@@ -44,7 +48,7 @@ pub enum Name {
 }
 
 // Which words may be set.
-#[derive(Clone, Copy)]
+#[derive(Clone, Copy, Debug, PartialEq, Eq)]
 pub enum Limits {
     // none: the attribute cannot be set
     Fixed,
@@ -61,7 +65,7 @@ pub enum Limits {
 }
 
 // One row of the table of attributes.
-#[derive(Clone, Copy)]
+#[derive(Clone, Copy, Debug, PartialEq, Eq)]
 pub struct Attribute {
     pub name: Name,
     // its command words without type and protection bit
@@ -79,31 +83,31 @@ pub const COLUMNS: u16 = 80;
 
 pub const ROWS: u16 = 60;
 
-const G: Kinds = Kinds {
+const GET: Kinds = Kinds {
     gets: true,
     sets: false,
     runs: false,
 };
 
-const GS: Kinds = Kinds {
+const GET_SET: Kinds = Kinds {
     gets: true,
     sets: true,
     runs: false,
 };
 
-const R: Kinds = Kinds {
+const RUN: Kinds = Kinds {
     gets: false,
     sets: false,
     runs: true,
 };
 
-const GR: Kinds = Kinds {
+const GET_RUN: Kinds = Kinds {
     gets: true,
     sets: false,
     runs: true,
 };
 
-const GSR: Kinds = Kinds {
+const GET_SET_RUN: Kinds = Kinds {
     gets: true,
     sets: true,
     runs: true,
@@ -115,7 +119,7 @@ const ATTRIBUTES: [Attribute; 20] = [
         name: Name::GainControl,
         base: 0x0100,
         words: 2,
-        kinds: GS,
+        kinds: GET_SET,
         limits: Limits::AtMost(1),
         start: [0, 0, 0, 0],
     },
@@ -123,7 +127,7 @@ const ATTRIBUTES: [Attribute; 20] = [
         name: Name::Status,
         base: 0x0204,
         words: 4,
-        kinds: G,
+        kinds: GET,
         limits: Limits::Fixed,
         start: [0, 0, 0, 0],
     },
@@ -131,7 +135,7 @@ const ATTRIBUTES: [Attribute; 20] = [
         name: Name::SerialNumber,
         base: 0x0208,
         words: 4,
-        kinds: G,
+        kinds: GET,
         limits: Limits::Fixed,
         start: [0, 0, 0, 0],
     },
@@ -139,7 +143,7 @@ const ATTRIBUTES: [Attribute; 20] = [
         name: Name::FpaTemperature,
         base: 0x0214,
         words: 1,
-        kinds: G,
+        kinds: GET,
         limits: Limits::Fixed,
         start: [0, 0, 0, 0],
     },
@@ -147,7 +151,7 @@ const ATTRIBUTES: [Attribute; 20] = [
         name: Name::Telemetry,
         base: 0x0218,
         words: 2,
-        kinds: GS,
+        kinds: GET_SET,
         limits: Limits::AtMost(1),
         start: [0, 0, 0, 0],
     },
@@ -155,7 +159,7 @@ const ATTRIBUTES: [Attribute; 20] = [
         name: Name::TelemetryPlace,
         base: 0x021C,
         words: 2,
-        kinds: GS,
+        kinds: GET_SET,
         limits: Limits::AtMost(1),
         start: [1, 0, 0, 0],
     },
@@ -163,7 +167,7 @@ const ATTRIBUTES: [Attribute; 20] = [
         name: Name::FrameAverage,
         base: 0x0220,
         words: 0,
-        kinds: R,
+        kinds: RUN,
         limits: Limits::Fixed,
         start: [0, 0, 0, 0],
     },
@@ -171,7 +175,7 @@ const ATTRIBUTES: [Attribute; 20] = [
         name: Name::FramesAveraged,
         base: 0x0224,
         words: 2,
-        kinds: GS,
+        kinds: GET_SET,
         limits: Limits::AtMost(7),
         start: [3, 0, 0, 0],
     },
@@ -179,7 +183,7 @@ const ATTRIBUTES: [Attribute; 20] = [
         name: Name::ColourScheme,
         base: 0x0304,
         words: 2,
-        kinds: GS,
+        kinds: GET_SET,
         limits: Limits::AtMost(8),
         start: [1, 0, 0, 0],
     },
@@ -187,7 +191,7 @@ const ATTRIBUTES: [Attribute; 20] = [
         name: Name::ColourTable,
         base: 0x0308,
         words: 512,
-        kinds: GS,
+        kinds: GET_SET,
         limits: Limits::Colours,
         start: [0, 0, 0, 0],
     },
@@ -195,7 +199,7 @@ const ATTRIBUTES: [Attribute; 20] = [
         name: Name::Focus,
         base: 0x030C,
         words: 2,
-        kinds: GS,
+        kinds: GET_SET,
         limits: Limits::AtMost(1),
         start: [0, 0, 0, 0],
     },
@@ -203,7 +207,7 @@ const ATTRIBUTES: [Attribute; 20] = [
         name: Name::Region,
         base: 0x0310,
         words: 4,
-        kinds: GS,
+        kinds: GET_SET,
         limits: Limits::FocusRegion,
         start: [1, 1, COLUMNS - 2, ROWS - 2],
     },
@@ -211,7 +215,7 @@ const ATTRIBUTES: [Attribute; 20] = [
         name: Name::Threshold,
         base: 0x0314,
         words: 2,
-        kinds: GS,
+        kinds: GET_SET,
         limits: Limits::Any,
         start: [30, 0, 0, 0],
     },
@@ -219,7 +223,7 @@ const ATTRIBUTES: [Attribute; 20] = [
         name: Name::FlatFieldTarget,
         base: 0x0844,
         words: 1,
-        kinds: GSR,
+        kinds: GET_SET_RUN,
         limits: Limits::AtMost(16383),
         start: [8192, 0, 0, 0],
     },
@@ -227,7 +231,7 @@ const ATTRIBUTES: [Attribute; 20] = [
         name: Name::OemStatus,
         base: 0x0848,
         words: 2,
-        kinds: G,
+        kinds: GET,
         limits: Limits::Fixed,
         start: [0, 0, 0, 0],
     },
@@ -235,7 +239,7 @@ const ATTRIBUTES: [Attribute; 20] = [
         name: Name::FrameMean,
         base: 0x084C,
         words: 1,
-        kinds: G,
+        kinds: GET,
         limits: Limits::AtMost(16383),
         start: [0, 0, 0, 0],
     },
@@ -243,7 +247,7 @@ const ATTRIBUTES: [Attribute; 20] = [
         name: Name::PinMode,
         base: 0x0854,
         words: 2,
-        kinds: GS,
+        kinds: GET_SET,
         limits: Limits::AtMost(5),
         start: [0, 0, 0, 0],
     },
@@ -251,7 +255,7 @@ const ATTRIBUTES: [Attribute; 20] = [
         name: Name::SyncDelay,
         base: 0x0858,
         words: 2,
-        kinds: GS,
+        kinds: GET_SET,
         limits: Limits::Between(-3, 3),
         start: [0, 0, 0, 0],
     },
@@ -259,7 +263,7 @@ const ATTRIBUTES: [Attribute; 20] = [
         name: Name::UserDefaults,
         base: 0x085C,
         words: 2,
-        kinds: GR,
+        kinds: GET_RUN,
         limits: Limits::Fixed,
         start: [0, 0, 0, 0],
     },
@@ -267,29 +271,31 @@ const ATTRIBUTES: [Attribute; 20] = [
         name: Name::Restore,
         base: 0x0860,
         words: 0,
-        kinds: R,
+        kinds: RUN,
         limits: Limits::Fixed,
         start: [0, 0, 0, 0],
     },
 ];
 
-// The numbers of attributes that have rules of their own.
-pub const STATUS: u16 = 1;
+// The numbers of attributes that have rules of their own. What is asked of an attribute is asked of its number, a u16 and no
+// Name: any number of sixteen bits may come, and one that no attribute has is answered by a rule and not kept from the camera.
+pub const STATUS: u16 = Name::Status as u16;
 
-pub const SERIAL_NUMBER: u16 = 2;
+pub const SERIAL_NUMBER: u16 = Name::SerialNumber as u16;
 
-pub const FPA_TEMPERATURE: u16 = 3;
+pub const FPA_TEMPERATURE: u16 = Name::FpaTemperature as u16;
 
-pub const COLOUR_TABLE: u16 = 9;
+pub const COLOUR_TABLE: u16 = Name::ColourTable as u16;
 
-pub const FRAME_MEAN: u16 = 15;
+pub const FRAME_MEAN: u16 = Name::FrameMean as u16;
 
-pub const USER_DEFAULTS: u16 = 18;
+pub const USER_DEFAULTS: u16 = Name::UserDefaults as u16;
 
-pub const RESTORE: u16 = 19;
+pub const RESTORE: u16 = Name::Restore as u16;
 
 impl Attribute {
     // The attribute of a number, or none past the table's end.
+    #[tactic(auto, using(crate::proofs::Lists::item_nth), unfolding(crate::specs::Attributes::attribute_at))]
     pub fn of(number: u16) -> Option<Attribute>
         ensures value { result ≡ attribute_at number }
     {
@@ -308,31 +314,24 @@ impl Attribute {
     }
 }
 
-// A law, with nothing to run: no attribute has more words than the block buffer.
-fn size_law(number: u16)
-    ensures bound { size_of number ≤ 512 }
-{}
-
 // How many words the attribute of a number has: 512 at most, and none where there is no attribute.
+#[tactic(auto, using(crate::proofs::Sizes::words_bound))]
 pub fn size_of(number: u16) -> usize
     ensures value { result ≡ size_of number }
     ensures bound { result ≤ 512 }
 {
-    size_law(number);
-    match Attribute::of(number) {
-        Some(found) => usize::from(found.words),
-        None => 0,
-    }
+    Attribute::of(number).map_or(0, |found| usize::from(found.words))
 }
 
 // Whether a user may set the attribute of a number.
 pub fn is_settable(number: u16) -> bool
     ensures value { result ≡ is_settable number }
 {
-    match Attribute::of(number) {
-        Some(found) => found.offers(Kind::Set),
-        None => false,
-    }
+    let set = Command {
+        kind: Kind::Set,
+        number,
+    };
+    set.is_offered()
 }
 
 // Whether the user defaults save the attribute of a number: each that can be set is saved, but for the colour table.

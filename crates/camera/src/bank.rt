@@ -9,7 +9,7 @@ use crate::attribute::size_of;
 const DATA_WORDS: usize = 16;
 
 // One of the two places where words stand on their way: the data registers or the block buffer.
-#[derive(Clone, Copy)]
+#[derive(Clone, Copy, Debug, PartialEq, Eq)]
 pub enum Bank {
     // the 16 data registers
     Data,

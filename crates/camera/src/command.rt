@@ -1,14 +1,14 @@
 // Command words: what a word in the command register asks for.
-ghost use Rattle.camera.specs.Commands.{OneWord, command_of, module_of, protection, type_bits, word_of};
+ghost use Rattle.camera.specs.Commands.{OneWord, command_of, kind_of, module_of, protection, type_bits, word_of};
 ghost use Rattle.camera.specs.Attributes.{offers};
 ghost use Rattle.camera.specs.Execution.{moved};
 ghost use Rattle.std.specs.Prelude.{◌≡◌, ◌≤◌};
 
 use crate::attribute::{Attribute, Kind, size_of};
-use crate::directory::{NO_ATTRIBUTE, directory_entry};
+use crate::directory::attribute_in;
 
 // A command: its kind, and the number of the attribute.
-#[derive(Clone, Copy)]
+#[derive(Clone, Copy, Debug, PartialEq, Eq)]
 pub struct Command {
     pub kind: Kind,
     pub number: u16,
@@ -19,18 +19,21 @@ impl Kind {
     fn type_bits(self) -> u16
         ensures value { result ≡ type_bits self }
     {
-        match self {
-            Kind::Get => 0,
-            Kind::Set => 1,
-            Kind::Run => 2,
+        self as u16
+    }
+
+    // The kind that type bits ask for, if there is one.
+    fn of(bits: u16) -> Option<Kind>
+        ensures value { result ≡ kind_of bits }
+    {
+        match bits {
+            0 => Some(Kind::Get),
+            1 => Some(Kind::Set),
+            2 => Some(Kind::Run),
+            _ => None,
         }
     }
 }
-
-// A law, with nothing to run: each command of an attribute has one word, and that word asks for no other command.
-fn one_word_law(word: u16)
-    ensures stands { OneWord word }
-{}
 
 // What stands above the module in a command word: the protection bit for module 8, nothing for the others.
 fn protection_of(word: u16) -> u16
@@ -66,25 +69,18 @@ impl Command {
         Some(found.base + self.kind.type_bits() + 4096 * protection_of(found.base))
     }
 
-    // What a command word asks for, or nothing if it is none.
+    // What a command word asks for, or nothing if it is none. An Option and no TryFrom: a word is no command in one way only, and
+    // an error type would say no more than None.
+    #[tactic(auto, using(crate::proofs::CommandWords::one_word))]
     pub fn of(word: u16) -> Option<Command>
         ensures value { result ≡ command_of word }
         ensures stands { OneWord word }
     {
-        one_word_law(word);
-        let number = directory_entry(word / 4 % 1024);
-        if word / 4096 != protection_of(word) || number == NO_ATTRIBUTE {
+        let number = attribute_in(word / 4 % 1024)?;
+        if word / 4096 != protection_of(word) {
             return None;
         }
-        let kind = match word % 4 {
-            0 => Kind::Get,
-            1 => Kind::Set,
-            2 => Kind::Run,
-            _ => return None,
-        };
-        Some(Command {
-            kind,
-            number: u16::from(number),
-        })
+        let kind = Kind::of(word % 4)?;
+        Some(Command { kind, number })
     }
 }

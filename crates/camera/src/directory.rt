@@ -1,9 +1,9 @@
 // The directory: which attribute has a module and a command, for every one of the 1,024 pairs.
-ghost use Rattle.camera.specs.Commands.{attribute_in};
-ghost use Rattle.std.specs.Prelude.{◌≡◌, ◌<◌};
+ghost use Rattle.camera.specs.Commands.{attribute_in, no_attribute};
+ghost use Rattle.std.specs.Prelude.{◌≡◌, ◌<◌, ◌==◌, cond, None, Some};
 
 // In the directory where no attribute is.
-pub(crate) const NO_ATTRIBUTE: u8 = 255;
+const NO_ATTRIBUTE: u8 = 255;
 
 // The attribute at 64 times the module plus the command. The table is made from the bases of the attributes, and its
 // proof computes every entry again from that rule.
@@ -64,10 +64,21 @@ const DIRECTORY: [u8; 1024] = [
     255, 255, 255, 255, 255, 255, 255, 255, 255, 255, 255, 255, 255,
 ];
 
-// The number of the attribute that has a place of the directory, or 255.
-pub(crate) fn directory_entry(place: u16) -> u8
+// What the directory has at a place: the number of an attribute, or 255.
+fn directory_entry(place: u16) -> u8
     requires { place < 1024 }
     ensures value { result ≡ attribute_in place }
 {
     DIRECTORY[place as usize]
+}
+
+// The number of the attribute that has a place of the directory, if one has it.
+pub(crate) fn attribute_in(place: u16) -> Option<u16>
+    requires { place < 1024 }
+    ensures value { result ≡ cond (attribute_in place == no_attribute) None (Some (attribute_in place)) }
+{
+    match directory_entry(place) {
+        NO_ATTRIBUTE => None,
+        number => Some(u16::from(number)),
+    }
 }

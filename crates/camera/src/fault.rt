@@ -3,7 +3,7 @@ ghost use Rattle.camera.specs.Registers.{fault_address, fault_number};
 ghost use Rattle.std.specs.Prelude.{◌≡◌};
 
 // A fault keeps the address of the access that met it.
-#[derive(Clone, Copy)]
+#[derive(Clone, Copy, Debug, PartialEq, Eq)]
 pub enum Fault {
     // 21: the device did not acknowledge
     NotAcknowledged { address: u16 },
@@ -12,7 +12,7 @@ pub enum Fault {
 }
 
 impl Fault {
-    // The number by which a fault is known outside.
+    // The number by which a fault is known outside. Each fault carries its address, and such an enum has no numbers of its own.
     pub fn number(self) -> u8
         ensures value { result ≡ fault_number self }
     {
@@ -27,8 +27,7 @@ impl Fault {
         ensures value { result ≡ fault_address self }
     {
         match self {
-            Fault::NotAcknowledged { address } => address,
-            Fault::NoRegister { address } => address,
+            Fault::NotAcknowledged { address } | Fault::NoRegister { address } => address,
         }
     }
 }

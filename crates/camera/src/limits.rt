@@ -15,7 +15,7 @@ impl Limits {
             Limits::AtMost(greatest) => pair_number(words) <= greatest,
             Limits::Between(least, greatest) => {
                 let value = pair_number(words).cast_signed();
-                least <= value && value <= greatest
+                (least..=greatest).contains(&value)
             }
             Limits::FocusRegion => region_fits(COLUMNS, ROWS, words),
             Limits::Colours => colours_fit(words),
@@ -27,7 +27,7 @@ impl Limits {
 pub fn word_at(words: &[u16], place: usize) -> u16
     ensures value { result ≡ slice_index words.now place }
 {
-    if place < words.len() { words[place] } else { 0 }
+    words.get(place).copied().unwrap_or(0)
 }
 
 // The number in one word, or in two words with the low one first.
@@ -66,22 +66,15 @@ fn colour_fits(place: usize, word: u16) -> bool
 fn colours_fit(words: &[u16]) -> bool
     ensures value { result ≡ colours_fit 0 words.now }
 {
-    for (place, word) in words.iter().enumerate() {
-        if !colour_fits(place, *word) {
-            return false;
-        }
-    }
-    true
+    words
+        .iter()
+        .enumerate()
+        .all(|(place, word)| colour_fits(place, *word))
 }
 
 // Whether no word is above a greatest one.
 pub fn all_at_most(words: &[u16], greatest: u16) -> bool
     ensures value { result ≡ all_at_most greatest words.now }
 {
-    for word in words {
-        if *word > greatest {
-            return false;
-        }
-    }
-    true
+    words.iter().all(|word| *word <= greatest)
 }

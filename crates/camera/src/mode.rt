@@ -1,7 +1,7 @@
 // What a camera does with an access depends on its mode.
 
 // The modes, the first that applies counting. The polls left are those after the next one.
-#[derive(Clone, Copy)]
+#[derive(Clone, Copy, Debug, PartialEq, Eq)]
 pub enum Mode {
     // it hangs, for ever
     Hung,

@@ -5,7 +5,7 @@ ghost use Rattle.std.specs.Prelude.{◌≡◌};
 use crate::fault::Fault;
 
 // A register of sixteen bits.
-#[derive(Clone, Copy)]
+#[derive(Clone, Copy, Debug, PartialEq, Eq)]
 pub enum Register {
     // power down and up; nothing of it is modelled
     Power,
@@ -21,17 +21,13 @@ pub enum Register {
     Block(u16),
 }
 
-// A law, with nothing to run: each register has one address.
-fn one_address_law(address: u16)
-    ensures stands { OneAddress address (register_at address) }
-{}
-
-// The register at an address.
+// The register at an address. A function and no TryFrom: a register could be made from its address or from its place among
+// others, both of them a u16, and the name says which.
+#[tactic(auto, using(crate::proofs::Addresses::one_address))]
 pub fn decode(address: u16) -> Result<Register, Fault>
     ensures value { result ≡ register_at address }
     ensures stands { OneAddress address (register_at address) }
 {
-    one_address_law(address);
     match address {
         0x0000 => Ok(Register::Power),
         0x0002 => Ok(Register::Status),
