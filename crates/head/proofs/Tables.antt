@@ -1,12 +1,10 @@
 -- One record changed, and the saved records put back, as the words of the attributes see it.
-use Rattle.std.proofs.Common.{◌≡◌, ℕ, zero, suc, ◌+◌, ◌<◌, ◌≤◌, Bool, true, false, cond, eqb, leb, ◌≢◌, List, [], ◌∷◌, length, get_or, take, drop, set, None, sym, refl, ap, ◌∙◌, arith, below_more}
-use Rattle.words.specs.Words.{Words}
+use Rattle.std.proofs.Common.{◌≡◌, ℕ, ◌<◌, ◌≤◌, Bool, true, false, cond, eqb, leb, ◌≢◌, List, [], length, get_or, take, set, None, sym, refl, ap, ◌∙◌, arith}
 use mathlib.Core.Path.{fun_ext}
-use Rattle.std.proofs.lemmas.List.{get_or_read, get_or-set_same, get_or-set_other, length-set, take_at}
+use Rattle.std.proofs.lemmas.List.{get_or-set_same, get_or-set_other}
 use Rattle.std.proofs.lemmas.Option.{slice_get_past}
 use Rattle.camera.specs.Attributes.{attribute_at, attributes, is_saved, size_of}
 use Rattle.camera.specs.Execution.{only_saved, put_back, with_one}
-use Rattle.camera.specs.Registers.{over}
 use Rattle.camera.proofs.Changes.{with_one_same, with_one_other}
 use Rattle.head.specs.declared.inner.Record.{Record}
 use Rattle.head.specs.Meaning.{after_restore, blank, words_in}

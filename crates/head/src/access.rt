@@ -1,9 +1,8 @@
 // One access to a head: modes, marks, and the registers.
-ghost use Rattle.camera.specs.Registers.{register_at};
-ghost use Rattle.camera.specs.Steps.{access, after_read, after_write, ended, held, mode, stored, word_read};
-ghost use Rattle.head.specs.Accesses.{reached};
+ghost use Rattle.camera.specs.Steps.{ended, held, mode, read_effect, read_step, stored, write_effect, write_step};
+ghost use Rattle.head.specs.Accesses.{followed};
 ghost use Rattle.head.specs.Meaning.{head_state};
-ghost use Rattle.std.specs.Prelude.{◌≡◌};
+ghost use Rattle.std.specs.Prelude.{◌≡◌, ℕ, Ok};
 ghost use Rattle.head.specs.Filling.{saved_filled, words_filled};
 
 use crate::memory::Head;
@@ -35,8 +34,10 @@ impl Head {
 
     // The register that an access meets: there is one at the address, and the next mark, which is used up, acknowledges
     // the access.
+    #[tactic(auto, unfolding(camera::specs::Steps::read_step, camera::specs::Steps::write_step))]
     fn reach(&mut self, address: u16) -> Result<Register, Fault>
-        ensures outcome { ended result (head_state self.new) ≡ access (register_at address) address (head_state self.old) reached }
+        ensures read { followed read_effect result (head_state self.new) ≡ read_step (head_state self.old) address }
+        ensures write { (word : ℕ) → followed (write_effect word) result (head_state self.new) ≡ write_step (head_state self.old) address word }
     {
         let register = decode(address)?;
         match self.acks.pop_front() {
@@ -53,15 +54,14 @@ impl Head {
             Register::Power | Register::Command => 0,
             Register::Status => 256 * u16::from(code_byte(self.inner.code)) + IDLE_STATUS,
             Register::Length => self.inner.size,
-            Register::Data(place) => word_at(&self.inner.data, place as usize),
-            Register::Block(place) => word_at(&self.inner.block, place as usize),
+            Register::Data(place) => word_at(&self.inner.data, usize::from(place)),
+            Register::Block(place) => word_at(&self.inner.block, usize::from(place)),
         }
     }
 
     // An acknowledged read.
     fn read_register(&mut self, register: Register) -> u16
-        ensures word { result ≡ word_read (mode (head_state self.old)) register (head_state self.old) }
-        ensures after { head_state self.new ≡ after_read (mode (head_state self.old)) register (head_state self.old) }
+        ensures outcome { ended (Ok result) (head_state self.new) ≡ read_effect register (head_state self.old) }
     {
         match (self.mode(), register) {
             (Mode::Hung, Register::Status) => BUSY_STATUS,
@@ -87,14 +87,14 @@ impl Head {
             Register::Power | Register::Status => {}
             Register::Command => self.execute(word),
             Register::Length => self.inner.size = word,
-            Register::Data(place) => put(&mut self.inner.data, place as usize, word),
-            Register::Block(place) => put(&mut self.inner.block, place as usize, word),
+            Register::Data(place) => put(&mut self.inner.data, usize::from(place), word),
+            Register::Block(place) => put(&mut self.inner.block, usize::from(place), word),
         }
     }
 
     // An acknowledged write.
     fn write_register(&mut self, register: Register, word: u16)
-        ensures after { head_state self.new ≡ after_write (mode (head_state self.old)) register word (head_state self.old) }
+        ensures outcome { ended (Ok tt) (head_state self.new) ≡ write_effect word register (head_state self.old) }
     {
         match self.mode() {
             Mode::Hung => {}

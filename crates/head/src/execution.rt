@@ -38,9 +38,10 @@ impl Head {
     {
         match command.kind {
             Kind::Get | Kind::Run => true,
-            Kind::Set => Attribute::of(command.number).is_some_and(|found| found
-                .limits
-                .allow(self.standing(command.number))),
+            Kind::Set => {
+                let words = self.standing(command.number);
+                Attribute::of(command.number).is_some_and(|found| found.limits.allow(words))
+            }
         }
     }
 

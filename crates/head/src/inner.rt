@@ -1,10 +1,12 @@
-// What a head holds: its registers and its table of attributes, as plain memory.
+// What a head holds: its registers and its table of attributes, as plain memory. The methods stand in table.rt, since a
+// struct with a ghost field may not stand beside contracts that cite definitions on that struct.
 ghost use Rattle.std.specs.Prelude.{◌≡◌, ◌<◌, length};
 ghost use Rattle.words.specs.Words.{Words};
 ghost use Rattle.std.specs.Int.Signed.{mag};
 
-// A record of the table of attributes: the attribute's words, in memory for as many as the largest one has. The memory
-// is fixed, and no `Vec`, so that no set and no save can fail for want of memory, for which a bus has no answer.
+// A record of the table of attributes: the attribute's words, in memory for as many as the largest one has. That is an
+// array and no `Vec`, here and below, so that no set and no save can fail for want of memory, for which a bus has no
+// answer.
 #[derive(Clone, Copy)]
 pub(crate) struct Record {
     pub(crate) words: [u16; 512],

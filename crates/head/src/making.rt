@@ -24,10 +24,7 @@ fn start_record(number: u16, serial: u64, fpa: u16) -> Record
             blank.with(&serial_words)
         }
         FPA_TEMPERATURE => blank.with(&[fpa]),
-        _ => match Attribute::of(number) {
-            Some(found) => blank.with(&found.start),
-            None => blank,
-        },
+        _ => Attribute::of(number).map_or(blank, |found| blank.with(&found.start)),
     }
 }
 

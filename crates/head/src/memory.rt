@@ -2,7 +2,9 @@
 use crate::inner::Inner;
 use std::collections::VecDeque;
 
-// A camera head that keeps the camera's state itself.
+// A camera head that keeps the camera's state itself. Contracts name that state by `head_state`: it is no `Model` of a
+// head, since a model's value must be data, and the words of a state's attributes are a function from their numbers,
+// which has no code.
 #[derive(Drop)]
 pub struct Head {
     pub(crate) inner: Inner,

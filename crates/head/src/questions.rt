@@ -9,7 +9,7 @@ use crate::memory::Head;
 use std::alloc::{AllocError, Global};
 
 // The camera's state as plain values.
-#[derive(Clone, Copy)]
+#[derive(Clone, Copy, Debug, PartialEq, Eq)]
 pub struct HeadReport {
     pub hung: bool,
     // boot polls left
@@ -27,7 +27,7 @@ pub struct HeadReport {
 }
 
 impl Head {
-    // The camera's state as plain values.
+    // The camera's state as plain values. Each is copied by name: a pattern in place of the paths would name each twice.
     pub fn report(&self) -> HeadReport
         ensures value { result ≡ report_of (head_state self.now) }
     {

@@ -1,6 +1,6 @@
 // Why a command is not carried out.
 
-// Why a command is not carried out. Each case is its response code.
+// The reasons for which a command is not carried out. The number of each is its response code.
 #[derive(Clone, Copy)]
 pub(crate) enum Rejection {
     // the length register is not the number of words that the command moves

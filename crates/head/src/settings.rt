@@ -14,7 +14,7 @@ const MOST_COMMANDS: usize = 64;
 const MOST_MARKS: usize = 4_096;
 
 // What a head is made from.
-#[derive(Drop)]
+#[derive(Debug, Drop)]
 pub struct HeadSettings {
     // how many status reads come before the camera is up
     pub boot: u16,
@@ -28,7 +28,7 @@ pub struct HeadSettings {
 }
 
 // The refusal of settings past the limits, which gives them back.
-#[derive(Drop)]
+#[derive(Debug, Drop)]
 pub struct BadSettings {
     pub settings: HeadSettings,
 }
@@ -50,6 +50,6 @@ impl HeadSettings {
         self.boot <= MOST_POLLS
             && self.busy.len() <= MOST_COMMANDS
             && self.acks.len() <= MOST_MARKS
-            && all_at_most(self.busy.as_slice(), MOST_POLLS)
+            && all_at_most(&self.busy, MOST_POLLS)
     }
 }

@@ -45,7 +45,7 @@ impl Table {
         ensures value { result.words ≡ (slice_index_or self.now.records number blank).words }
     {
         self.records
-            .get(number as usize)
+            .get(usize::from(number))
             .copied()
             .unwrap_or(Record::blank())
     }
@@ -55,7 +55,7 @@ impl Table {
     pub(crate) fn set_record(&mut self, number: u16, other: Record)
         ensures after { words_in self.new.records ≡ with_one number (take (size_of number) other.words) (words_in self.old.records) }
     {
-        put(&mut self.records, number as usize, other);
+        put(&mut self.records, usize::from(number), other);
     }
 
     // The table with the saved attributes of another one in the place of its own.

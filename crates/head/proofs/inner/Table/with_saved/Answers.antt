@@ -1,4 +1,4 @@
-use Rattle.std.proofs.Common.{◌≡◌, cond, get_or, rules, ap}
+use Rattle.std.proofs.Common.{◌≡◌, rules}
 use Rattle.head.specs.Meaning.{after_restore, blank}
 use Rattle.head.proofs.Made.{made}
 use Rattle.head.proofs.Tables.{merged_words}
