@@ -90,7 +90,7 @@ impl Session {
     }
 
     // A whole command, with the session handed on: tested, begun and collected.
-    #[tactic(auto, using(crate::proofs::Issuing::ends, crate::proofs::Issuing::goes_on))]
+    #[tactic(auto, using(crate::proofs::Issuing::in_steps))]
     fn ordered<B: Bus>(self, bus: &mut B, order: Order<'_>, buffer: &mut [u16], budget: u16) -> Step
         ensures outcome { left_by result buffer.new (B.Bus.state bus.new) ≡ order_outcome (as_session self) order.entry buffer.old budget (B.Bus.state bus.old) }
     {
@@ -110,6 +110,7 @@ impl Session {
     }
 
     // Gets the words of an attribute into a buffer of its size.
+    #[tactic(auto, using(crate::proofs::Issuing::order_is_get))]
     pub fn get<B: Bus>(
         &mut self,
         bus: &mut B,
@@ -124,6 +125,7 @@ impl Session {
     }
 
     // Sets an attribute to words, as many as it has.
+    #[tactic(auto, using(std::proofs::lemmas::List::nil_from_length, crate::proofs::Issuing::order_is_set))]
     pub fn set<B: Bus>(
         &mut self,
         bus: &mut B,
@@ -138,6 +140,7 @@ impl Session {
     }
 
     // Runs what an attribute stands for.
+    #[tactic(auto, using(std::proofs::lemmas::List::nil_from_length, crate::proofs::Issuing::order_is_run))]
     pub fn run<B: Bus>(&mut self, bus: &mut B, number: u16, budget: u16) -> Result<(), Refusal>
         ensures outcome { served result [] (as_session self.new) (B.Bus.state bus.new) ≡ outcome camera (as_session self.old) (run number budget) (B.Bus.state bus.old) }
     {
