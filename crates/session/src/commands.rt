@@ -6,7 +6,7 @@ ghost use Rattle.checks.specs.Tests.{judged};
 ghost use Rattle.session.specs.Views.{HandsBack, answer_of, as_session, brought, command_in, left_by, order_outcome, session_after};
 ghost use Rattle.std.specs.Prelude.{◌≡◌, []};
 
-use crate::collecting::is_budget;
+use crate::collecting::check_budget;
 use crate::orders::Order;
 use crate::states::{Asleep, Ready, Session, Step};
 use calls::Refusal;
@@ -20,10 +20,7 @@ fn check(order: Order<'_>, buffer: &[u16], budget: u16) -> Result<(), Refusal>
 {
     let command = order.command();
     check_command(command, order.brought(buffer), command.size())?;
-    if !is_budget(budget) {
-        return Err(Refusal::BadBudget);
-    }
-    Ok(())
+    check_budget(budget)
 }
 
 // A session is asleep where none is given.
@@ -82,8 +79,8 @@ impl Session {
         let Session::Asleep(state) = self else {
             return Err((self, Refusal::Awake));
         };
-        if !is_budget(budget) {
-            return Err((Session::Asleep(state), Refusal::BadBudget));
+        if let Err(refusal) = check_budget(budget) {
+            return Err((Session::Asleep(state), refusal));
         }
         poll(bus, Awaited::Up, budget).map_err(|refusal| (Session::Asleep(state), refusal))?;
         Ok(Ready)
