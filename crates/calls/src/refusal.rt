@@ -6,7 +6,7 @@ ghost use Rattle.std.specs.Prelude.{◌≡◌};
 use camera::Fault;
 
 // A refusal keeps what came with it: the fault of the bus with its address, or the camera's response code.
-#[derive(Clone, Copy)]
+#[derive(Clone, Copy, Debug, PartialEq, Eq)]
 pub enum Refusal {
     // 1: the session is asleep
     Asleep,
@@ -40,7 +40,7 @@ impl From<Fault> for Refusal {
 }
 
 impl Refusal {
-    // The number by which a refusal is known outside.
+    // The number by which a refusal is known outside. Two refusals carry values, and such an enum has no numbers of its own.
     pub fn number(self) -> u8
         ensures value { result ≡ number_of self }
     {

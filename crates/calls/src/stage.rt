@@ -1,6 +1,6 @@
 // How far a command has come whose word the camera has taken and whose answer is still owed.
 
-#[derive(Clone, Copy)]
+#[derive(Clone, Copy, Debug, PartialEq, Eq)]
 pub enum Stage {
     // it waits until the camera is no longer busy
     Waiting,

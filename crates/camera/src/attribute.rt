@@ -4,15 +4,17 @@ ghost use Rattle.std.specs.Prelude.{◌≡◌, ◌≤◌};
 
 use crate::command::Command;
 
-// What a command does: it gets or sets an attribute, or runs what the attribute stands for.
+// What a command does: it gets or sets an attribute, or runs what the attribute stands for. The numbers are the type bits
+// of command words.
 #[derive(Clone, Copy, Debug, PartialEq, Eq)]
 pub enum Kind {
-    Get,
-    Set,
-    Run,
+    Get = 0,
+    Set = 1,
+    Run = 2,
 }
 
-// Which kinds of command an attribute has.
+// Which kinds of command an attribute has. Three named answers and no set of kinds: std's sets lie on the heap, of which a
+// camera has none, and a set of bits would say less.
 #[derive(Clone, Copy, Debug, PartialEq, Eq)]
 pub struct Kinds {
     pub gets: bool,
@@ -20,7 +22,7 @@ pub struct Kinds {
     pub runs: bool,
 }
 
-// The attributes by name, in the order of their numbers.
+// The attributes by name, in the order of their numbers: `name as u16` is the number.
 #[derive(Clone, Copy, Debug, PartialEq, Eq)]
 pub enum Name {
     GainControl,
@@ -81,31 +83,31 @@ pub const COLUMNS: u16 = 80;
 
 pub const ROWS: u16 = 60;
 
-const G: Kinds = Kinds {
+const GET: Kinds = Kinds {
     gets: true,
     sets: false,
     runs: false,
 };
 
-const GS: Kinds = Kinds {
+const GET_SET: Kinds = Kinds {
     gets: true,
     sets: true,
     runs: false,
 };
 
-const R: Kinds = Kinds {
+const RUN: Kinds = Kinds {
     gets: false,
     sets: false,
     runs: true,
 };
 
-const GR: Kinds = Kinds {
+const GET_RUN: Kinds = Kinds {
     gets: true,
     sets: false,
     runs: true,
 };
 
-const GSR: Kinds = Kinds {
+const GET_SET_RUN: Kinds = Kinds {
     gets: true,
     sets: true,
     runs: true,
@@ -117,7 +119,7 @@ const ATTRIBUTES: [Attribute; 20] = [
         name: Name::GainControl,
         base: 0x0100,
         words: 2,
-        kinds: GS,
+        kinds: GET_SET,
         limits: Limits::AtMost(1),
         start: [0, 0, 0, 0],
     },
@@ -125,7 +127,7 @@ const ATTRIBUTES: [Attribute; 20] = [
         name: Name::Status,
         base: 0x0204,
         words: 4,
-        kinds: G,
+        kinds: GET,
         limits: Limits::Fixed,
         start: [0, 0, 0, 0],
     },
@@ -133,7 +135,7 @@ const ATTRIBUTES: [Attribute; 20] = [
         name: Name::SerialNumber,
         base: 0x0208,
         words: 4,
-        kinds: G,
+        kinds: GET,
         limits: Limits::Fixed,
         start: [0, 0, 0, 0],
     },
@@ -141,7 +143,7 @@ const ATTRIBUTES: [Attribute; 20] = [
         name: Name::FpaTemperature,
         base: 0x0214,
         words: 1,
-        kinds: G,
+        kinds: GET,
         limits: Limits::Fixed,
         start: [0, 0, 0, 0],
     },
@@ -149,7 +151,7 @@ const ATTRIBUTES: [Attribute; 20] = [
         name: Name::Telemetry,
         base: 0x0218,
         words: 2,
-        kinds: GS,
+        kinds: GET_SET,
         limits: Limits::AtMost(1),
         start: [0, 0, 0, 0],
     },
@@ -157,7 +159,7 @@ const ATTRIBUTES: [Attribute; 20] = [
         name: Name::TelemetryPlace,
         base: 0x021C,
         words: 2,
-        kinds: GS,
+        kinds: GET_SET,
         limits: Limits::AtMost(1),
         start: [1, 0, 0, 0],
     },
@@ -165,7 +167,7 @@ const ATTRIBUTES: [Attribute; 20] = [
         name: Name::FrameAverage,
         base: 0x0220,
         words: 0,
-        kinds: R,
+        kinds: RUN,
         limits: Limits::Fixed,
         start: [0, 0, 0, 0],
     },
@@ -173,7 +175,7 @@ const ATTRIBUTES: [Attribute; 20] = [
         name: Name::FramesAveraged,
         base: 0x0224,
         words: 2,
-        kinds: GS,
+        kinds: GET_SET,
         limits: Limits::AtMost(7),
         start: [3, 0, 0, 0],
     },
@@ -181,7 +183,7 @@ const ATTRIBUTES: [Attribute; 20] = [
         name: Name::ColourScheme,
         base: 0x0304,
         words: 2,
-        kinds: GS,
+        kinds: GET_SET,
         limits: Limits::AtMost(8),
         start: [1, 0, 0, 0],
     },
@@ -189,7 +191,7 @@ const ATTRIBUTES: [Attribute; 20] = [
         name: Name::ColourTable,
         base: 0x0308,
         words: 512,
-        kinds: GS,
+        kinds: GET_SET,
         limits: Limits::Colours,
         start: [0, 0, 0, 0],
     },
@@ -197,7 +199,7 @@ const ATTRIBUTES: [Attribute; 20] = [
         name: Name::Focus,
         base: 0x030C,
         words: 2,
-        kinds: GS,
+        kinds: GET_SET,
         limits: Limits::AtMost(1),
         start: [0, 0, 0, 0],
     },
@@ -205,7 +207,7 @@ const ATTRIBUTES: [Attribute; 20] = [
         name: Name::Region,
         base: 0x0310,
         words: 4,
-        kinds: GS,
+        kinds: GET_SET,
         limits: Limits::FocusRegion,
         start: [1, 1, COLUMNS - 2, ROWS - 2],
     },
@@ -213,7 +215,7 @@ const ATTRIBUTES: [Attribute; 20] = [
         name: Name::Threshold,
         base: 0x0314,
         words: 2,
-        kinds: GS,
+        kinds: GET_SET,
         limits: Limits::Any,
         start: [30, 0, 0, 0],
     },
@@ -221,7 +223,7 @@ const ATTRIBUTES: [Attribute; 20] = [
         name: Name::FlatFieldTarget,
         base: 0x0844,
         words: 1,
-        kinds: GSR,
+        kinds: GET_SET_RUN,
         limits: Limits::AtMost(16383),
         start: [8192, 0, 0, 0],
     },
@@ -229,7 +231,7 @@ const ATTRIBUTES: [Attribute; 20] = [
         name: Name::OemStatus,
         base: 0x0848,
         words: 2,
-        kinds: G,
+        kinds: GET,
         limits: Limits::Fixed,
         start: [0, 0, 0, 0],
     },
@@ -237,7 +239,7 @@ const ATTRIBUTES: [Attribute; 20] = [
         name: Name::FrameMean,
         base: 0x084C,
         words: 1,
-        kinds: G,
+        kinds: GET,
         limits: Limits::AtMost(16383),
         start: [0, 0, 0, 0],
     },
@@ -245,7 +247,7 @@ const ATTRIBUTES: [Attribute; 20] = [
         name: Name::PinMode,
         base: 0x0854,
         words: 2,
-        kinds: GS,
+        kinds: GET_SET,
         limits: Limits::AtMost(5),
         start: [0, 0, 0, 0],
     },
@@ -253,7 +255,7 @@ const ATTRIBUTES: [Attribute; 20] = [
         name: Name::SyncDelay,
         base: 0x0858,
         words: 2,
-        kinds: GS,
+        kinds: GET_SET,
         limits: Limits::Between(-3, 3),
         start: [0, 0, 0, 0],
     },
@@ -261,7 +263,7 @@ const ATTRIBUTES: [Attribute; 20] = [
         name: Name::UserDefaults,
         base: 0x085C,
         words: 2,
-        kinds: GR,
+        kinds: GET_RUN,
         limits: Limits::Fixed,
         start: [0, 0, 0, 0],
     },
@@ -269,13 +271,14 @@ const ATTRIBUTES: [Attribute; 20] = [
         name: Name::Restore,
         base: 0x0860,
         words: 0,
-        kinds: R,
+        kinds: RUN,
         limits: Limits::Fixed,
         start: [0, 0, 0, 0],
     },
 ];
 
-// The numbers of attributes that have rules of their own.
+// The numbers of attributes that have rules of their own. What is asked of an attribute is asked of its number, a u16 and no
+// Name: any number of sixteen bits may come, and one that no attribute has is answered by a rule and not kept from the camera.
 pub const STATUS: u16 = Name::Status as u16;
 
 pub const SERIAL_NUMBER: u16 = Name::SerialNumber as u16;

@@ -69,7 +69,8 @@ impl Command {
         Some(found.base + self.kind.type_bits() + 4096 * protection_of(found.base))
     }
 
-    // What a command word asks for, or nothing if it is none.
+    // What a command word asks for, or nothing if it is none. An Option and no TryFrom: a word is no command in one way only, and
+    // an error type would say no more than None.
     #[tactic(auto, using(crate::proofs::CommandWords::one_word))]
     pub fn of(word: u16) -> Option<Command>
         ensures value { result ≡ command_of word }

@@ -12,7 +12,7 @@ pub enum Fault {
 }
 
 impl Fault {
-    // The number by which a fault is known outside.
+    // The number by which a fault is known outside. Each fault carries its address, and such an enum has no numbers of its own.
     pub fn number(self) -> u8
         ensures value { result ≡ fault_number self }
     {

@@ -12,13 +12,13 @@ const PIXELS: u32 = COLUMNS as u32 * ROWS as u32;
 // The greatest number that a pixel can have: the sensor measures with fourteen bits.
 const GREATEST_PIXEL: u16 = 16383;
 
-// Why a frame has no mean.
-#[derive(Clone, Copy)]
+// Why a frame has no mean, with the number by which each refusal is known outside.
+#[derive(Clone, Copy, Debug, PartialEq, Eq)]
 pub enum FrameRefusal {
-    // 51: not 4,800 pixels
-    Size,
-    // 52: a pixel above 16,383
-    Bright,
+    // not 4,800 pixels
+    Size = 51,
+    // a pixel above 16,383
+    Bright = 52,
 }
 
 impl FrameRefusal {
@@ -26,24 +26,18 @@ impl FrameRefusal {
     pub fn number(self) -> u8
         ensures value { result ≡ refusal_number self }
     {
-        match self {
-            FrameRefusal::Size => 51,
-            FrameRefusal::Bright => 52,
-        }
+        self as u8
     }
 }
 
 // The sum of the pixels of a frame.
 fn total(pixels: &[u16]) -> u32
-    requires { (length pixels.now ≡ pixel_count) × (all_dim pixels.now ≡ true) }
+    requires size { length pixels.now ≡ pixel_count }
+    requires dim { all_dim pixels.now ≡ true }
     ensures value { result ≡ sum pixels.now }
     ensures bound { result ≤ pixel_count * greatest_pixel }
 {
-    let mut so_far: u32 = 0;
-    for pixel in pixels {
-        so_far += u32::from(*pixel);
-    }
-    so_far
+    pixels.iter().map(|pixel| u32::from(*pixel)).sum()
 }
 
 // The mean of a frame, rounded down.
@@ -67,10 +61,7 @@ mod tests {
 
     // The mean, or the number of the refusal.
     fn outcome(pixels: &[u16]) -> Result<u16, u8> {
-        match frame_mean(pixels) {
-            Ok(mean) => Ok(mean),
-            Err(refusal) => Err(refusal.number()),
-        }
+        frame_mean(pixels).map_err(FrameRefusal::number)
     }
 
     #[test]
