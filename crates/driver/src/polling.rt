@@ -11,7 +11,7 @@ use camera::Bus;
 
 // What is waited for. It is no closure that tests a status word, since that would put a `requires` on `poll`, that the closure
 // may be called, and no public function of the project has one.
-#[derive(Clone, Copy)]
+#[derive(Clone, Copy, Debug, PartialEq, Eq)]
 pub enum Awaited {
     // that the camera has booted and is not busy
     Up,
@@ -46,7 +46,8 @@ impl Awaited {
 }
 
 // Reads the status register until it shows what is awaited, as often as the budget allows: that status word, or a refusal.
-#[tactic(auto, using(crate::proofs::StatusReads::none_left))]
+// The project's form of a polling loop: it is left by `break` with the status word, or runs out.
+#[tactic(auto, using(crate::proofs::StatusReads::polling))]
 pub fn poll<B: Bus>(bus: &mut B, awaited: Awaited, budget: u16) -> Result<u16, Refusal>
     ensures outcome { ended result (B.Bus.state bus.new) ≡ polled camera (passes awaited) budget (B.Bus.state bus.old) }
 {

@@ -37,7 +37,7 @@ pub fn check_command(command: Command, brought: usize, wanted: usize) -> Result<
 }
 
 // Writes words to a bank, from its first place on.
-#[tactic(auto, using(crate::proofs::WordTransfers::writes_on, crate::proofs::WordTransfers::all_written))]
+#[tactic(auto, using(crate::proofs::WordTransfers::writing))]
 fn write_words<B: Bus>(bus: &mut B, bank: Bank, words: &[u16]) -> Result<(), Fault>
     requires { length words.now ≤ bank_size (is_data bank) }
     ensures outcome { ended result (B.Bus.state bus.new) ≡ words_written (is_data bank) 0 words.now (B.Bus.state bus.old) }
@@ -57,7 +57,7 @@ fn write_command<B: Bus>(bus: &mut B, command: Command) -> Result<(), Fault>
 }
 
 // Reads words from a bank into a buffer, from its first place on.
-#[tactic(auto, using(crate::proofs::WordTransfers::reads_on, crate::proofs::WordTransfers::all_read))]
+#[tactic(auto, using(crate::proofs::WordTransfers::reading))]
 fn read_words<B: Bus>(bus: &mut B, bank: Bank, buffer: &mut [u16]) -> Result<(), Fault>
     requires { length buffer.old ≤ bank_size (is_data bank) }
     ensures outcome { fetched result buffer.new (B.Bus.state bus.new) ≡ words_read (is_data bank) 0 buffer.old (B.Bus.state bus.old) }
@@ -70,6 +70,7 @@ fn read_words<B: Bus>(bus: &mut B, bank: Bank, buffer: &mut [u16]) -> Result<(),
 
 // Sends a command, a set with its words, up to its command word. It is refused before any access if the attribute does not
 // offer it or the number of words is another.
+#[tactic(auto, using(crate::proofs::WordTransfers::sent_fit))]
 pub fn send<B: Bus>(bus: &mut B, command: Command, words: &[u16]) -> Result<(), Refusal>
     ensures outcome { ended result (B.Bus.state bus.new) ≡ begun camera command words.now (B.Bus.state bus.old) }
 {

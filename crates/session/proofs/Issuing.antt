@@ -66,20 +66,6 @@ in_steps session o buffer budget s passed =
     ∙ sent_on (camera.send c (words_in o) s) (λ t. outcome camera (parked c Waiting) (resume buffer budget) t) (λ t. collected camera c Waiting buffer budget t) (λ refusal t. served (Err refusal) buffer ready t) collects
     ∙ sym whole
 
--- Begun, its collecting is the whole command ..
-pub goes_on : (session : Session) (o : Order) (buffer : List ℕ) (budget : ℕ) (s t : CameraState) → judged {A = Unit {0}} (tests session o buffer budget) tt ≡ Ok tt →
-    ended (Ok tt) t ≡ begun camera (command_in o) (words_in o) s → outcome camera (parked (command_in o) Waiting) (resume buffer budget) t ≡ order_outcome session o buffer budget s
-goes_on session o buffer budget s t passed begins =
-    ap (λ begun. by_answer begun (λ _ t. outcome camera (parked (command_in o) Waiting) (resume buffer budget) t) (λ refusal t. served (Err refusal) buffer ready t)) begins
-    ∙ in_steps session o buffer budget s passed
-
--- .. and refused there, it ends ready.
-pub ends : (session : Session) (o : Order) (buffer : List ℕ) (budget : ℕ) (s t : CameraState) (refusal : Refusal) → judged {A = Unit {0}} (tests session o buffer budget) tt ≡ Ok tt →
-    ended (Err refusal) t ≡ begun camera (command_in o) (words_in o) s → served (Err refusal) buffer ready t ≡ order_outcome session o buffer budget s
-ends session o buffer budget s t refusal passed begins =
-    ap (λ begun. by_answer begun (λ _ t. outcome camera (parked (command_in o) Waiting) (resume buffer budget) t) (λ refusal t. served (Err refusal) buffer ready t)) begins
-    ∙ in_steps session o buffer budget s passed
-
 -- The three orders are the three calls.
 pub order_is_get : (session : Session) (number : ℕ) (buffer : List ℕ) (budget : ℕ) (s : CameraState) →
     order_outcome session (Get number) buffer budget s ≡ outcome camera session (get number buffer budget) s

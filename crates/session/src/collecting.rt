@@ -4,7 +4,7 @@ ghost use Rattle.calls.specs.Calls.{has_room, is_budget, parked, resume};
 ghost use Rattle.calls.specs.Outcomes.{outcome};
 ghost use Rattle.calls.specs.declared.refusal.Refusal.TheVariants.{BadBudget, WrongSize};
 ghost use Rattle.checks.specs.Tests.{judged};
-ghost use Rattle.session.specs.Views.{left_by};
+ghost use Rattle.session.specs.Views.{as_session, left_by};
 ghost use Rattle.std.specs.Prelude.{◌≡◌, [], ◌∷◌};
 
 use crate::states::{Parked, Ready, Session, Step};
@@ -16,11 +16,22 @@ use words::response_code;
 // The most status reads of a budget.
 const MOST_READS: u16 = 1000;
 
-// Whether a budget is 1 to 1,000 status reads.
-pub(crate) fn is_budget(budget: u16) -> bool
-    ensures value { result ≡ is_budget budget }
+// What is tested of each budget: it is 1 to 1,000 status reads.
+pub(crate) fn check_budget(budget: u16) -> Result<(), Refusal>
+    ensures value { result ≡ judged ((is_budget budget, BadBudget) ∷ []) tt }
 {
-    (1..=MOST_READS).contains(&budget)
+    if !(1..=MOST_READS).contains(&budget) {
+        return Err(Refusal::BadBudget);
+    }
+    Ok(())
+}
+
+// A refusal that leaves a command parked at a stage.
+fn parked(command: Command, stage: Stage, refusal: Refusal) -> (Session, Refusal)
+    ensures state { as_session result.0 ≡ parked command stage }
+    ensures refusal { result.1 ≡ refusal }
+{
+    (Session::Parked(Parked { command, stage }), refusal)
 }
 
 // Whether a command can be collected into a buffer: a get's has room for exactly its words.
@@ -41,10 +52,7 @@ impl Parked {
         if !has_room(self.command, buffer) {
             return Err(Refusal::WrongSize);
         }
-        if !is_budget(budget) {
-            return Err(Refusal::BadBudget);
-        }
-        Ok(())
+        check_budget(budget)
     }
 
     // The parked command goes on from the stage that it has reached, unless the buffer or the budget is refused.
@@ -56,21 +64,16 @@ impl Parked {
         }
         let Parked { command, stage } = self;
         if let Stage::Waiting = stage {
-            let status = poll(bus, Awaited::Free, budget).map_err(|refusal| (
-                Session::Parked(Parked { command, stage }),
-                refusal,
-            ))?;
+            let polled = poll(bus, Awaited::Free, budget);
+            let status = polled.map_err(|refusal| parked(command, Stage::Waiting, refusal))?;
             let code = response_code(status);
             if code != 0 {
                 return Err((Session::Ready(Ready), Refusal::Camera(code)));
             }
         }
         if let Kind::Get = command.kind {
-            let stage = Stage::Reading;
-            fetch(bus, command.number, buffer).map_err(|refusal| (
-                Session::Parked(Parked { command, stage }),
-                refusal,
-            ))?;
+            let fetched = fetch(bus, command.number, buffer);
+            fetched.map_err(|refusal| parked(command, Stage::Reading, refusal))?;
         }
         Ok(Ready)
     }

@@ -6,7 +6,7 @@ ghost use Rattle.checks.specs.Tests.{judged};
 ghost use Rattle.session.specs.Views.{HandsBack, answer_of, as_session, brought, command_in, left_by, order_outcome, session_after};
 ghost use Rattle.std.specs.Prelude.{◌≡◌, []};
 
-use crate::collecting::is_budget;
+use crate::collecting::check_budget;
 use crate::orders::Order;
 use crate::states::{Asleep, Ready, Session, Step};
 use calls::Refusal;
@@ -20,10 +20,7 @@ fn check(order: Order<'_>, buffer: &[u16], budget: u16) -> Result<(), Refusal>
 {
     let command = order.command();
     check_command(command, order.brought(buffer), command.size())?;
-    if !is_budget(budget) {
-        return Err(Refusal::BadBudget);
-    }
-    Ok(())
+    check_budget(budget)
 }
 
 // A session is asleep where none is given.
@@ -82,15 +79,15 @@ impl Session {
         let Session::Asleep(state) = self else {
             return Err((self, Refusal::Awake));
         };
-        if !is_budget(budget) {
-            return Err((Session::Asleep(state), Refusal::BadBudget));
+        if let Err(refusal) = check_budget(budget) {
+            return Err((Session::Asleep(state), refusal));
         }
         poll(bus, Awaited::Up, budget).map_err(|refusal| (Session::Asleep(state), refusal))?;
         Ok(Ready)
     }
 
     // A whole command, with the session handed on: tested, begun and collected.
-    #[tactic(auto, using(crate::proofs::Issuing::ends, crate::proofs::Issuing::goes_on))]
+    #[tactic(auto, using(crate::proofs::Issuing::in_steps))]
     fn ordered<B: Bus>(self, bus: &mut B, order: Order<'_>, buffer: &mut [u16], budget: u16) -> Step
         ensures outcome { left_by result buffer.new (B.Bus.state bus.new) ≡ order_outcome (as_session self) order.entry buffer.old budget (B.Bus.state bus.old) }
     {
@@ -110,6 +107,7 @@ impl Session {
     }
 
     // Gets the words of an attribute into a buffer of its size.
+    #[tactic(auto, using(crate::proofs::Issuing::order_is_get))]
     pub fn get<B: Bus>(
         &mut self,
         bus: &mut B,
@@ -124,6 +122,7 @@ impl Session {
     }
 
     // Sets an attribute to words, as many as it has.
+    #[tactic(auto, using(std::proofs::lemmas::List::nil_from_length, crate::proofs::Issuing::order_is_set))]
     pub fn set<B: Bus>(
         &mut self,
         bus: &mut B,
@@ -138,6 +137,7 @@ impl Session {
     }
 
     // Runs what an attribute stands for.
+    #[tactic(auto, using(std::proofs::lemmas::List::nil_from_length, crate::proofs::Issuing::order_is_run))]
     pub fn run<B: Bus>(&mut self, bus: &mut B, number: u16, budget: u16) -> Result<(), Refusal>
         ensures outcome { served result [] (as_session self.new) (B.Bus.state bus.new) ≡ outcome camera (as_session self.old) (run number budget) (B.Bus.state bus.old) }
     {

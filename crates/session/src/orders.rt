@@ -4,8 +4,8 @@ ghost use Rattle.std.specs.Prelude.{◌≡◌, length};
 
 use camera::{Command, Kind};
 
-// An order is to get, set or run the attribute of a number. Only a set has words to send; where a get's words go is no part
-// of it.
+// An order is to get, set or run the attribute of a number. Only a set has words to send. A get's buffer is passed beside it:
+// within it, a contract could name what the buffer holds afterwards only by the place of its variant and its field.
 #[derive(Clone, Copy)]
 pub(crate) enum Order<'a> {
     Get(u16),
