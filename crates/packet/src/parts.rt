@@ -15,7 +15,7 @@ const PROCESS_CODE: u8 = 0x6E;
 // What a buffer has to hold: the largest packet, a write request.
 pub const ROOM: usize = 14;
 
-// What a packet says.
+// What a packet says. A status that is no denial's is refused only behind the test on the function: it stays a byte here.
 #[derive(Clone, Copy)]
 pub(crate) struct Parts<'a> {
     pub(crate) status: u8,
@@ -24,7 +24,7 @@ pub(crate) struct Parts<'a> {
 }
 
 impl<'a> Parts<'a> {
-    // Takes a packet apart, or refuses it by the first of its tests that fails.
+    // Takes a packet apart, or refuses it by the first of its tests that fails; the last is that its function is known.
     pub(crate) fn open(packet: &'a [u8]) -> Result<Parts<'a>, PacketRefusal>
         ensures value { opened_content result ≡ then (content_of packet.now) known }
     {
