@@ -14,6 +14,9 @@ use parts::Parts;
 pub use parts::ROOM;
 pub use refusal::PacketRefusal;
 
+// Requests and replies have a function each, both ways: they differ in what they carry, in what refuses them and in their
+// laws, and what they share is `Parts`.
+
 // Reads a byte string as a request.
 pub fn unpack_request(packet: &[u8]) -> Result<Access, PacketRefusal>
     ensures answer { result ≡ request_of packet.now }
