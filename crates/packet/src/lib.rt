@@ -43,13 +43,13 @@ pub fn pack_request(access: Access, buffer: &mut [u8]) -> Result<usize, PacketRe
     match access {
         Access::Read { address } => {
             let arguments = address.to_be_bytes();
-            Parts::plain(Function::Read, &arguments).write(buffer)
+            Parts::new(0, Function::Read, &arguments).write(buffer)
         }
         Access::Write { address, word } => {
             let [address_high, address_low] = address.to_be_bytes();
             let [word_high, word_low] = word.to_be_bytes();
             let arguments = [address_high, address_low, word_high, word_low];
-            Parts::plain(Function::Write, &arguments).write(buffer)
+            Parts::new(0, Function::Write, &arguments).write(buffer)
         }
     }
 }
@@ -61,9 +61,11 @@ pub fn pack_reply(reply: Reply, buffer: &mut [u8]) -> Result<usize, PacketRefusa
     ensures stands { ReplyStands reply }
 {
     match reply {
-        Reply::Read(Ok(word)) => Parts::plain(Function::Read, &word.to_be_bytes()).write(buffer),
-        Reply::Read(Err(denial)) => Parts::denied(Function::Read, denial).write(buffer),
-        Reply::Write(Ok(())) => Parts::plain(Function::Write, &[]).write(buffer),
-        Reply::Write(Err(denial)) => Parts::denied(Function::Write, denial).write(buffer),
+        Reply::Read(Ok(word)) => Parts::new(0, Function::Read, &word.to_be_bytes()).write(buffer),
+        Reply::Read(Err(denial)) => Parts::new(denial.status(), Function::Read, &[]).write(buffer),
+        Reply::Write(Ok(())) => Parts::new(0, Function::Write, &[]).write(buffer),
+        Reply::Write(Err(denial)) => {
+            Parts::new(denial.status(), Function::Write, &[]).write(buffer)
+        }
     }
 }
