@@ -25,7 +25,7 @@ fn denial_of(fault: Fault) -> Denial
     }
 }
 
-// The fault that a denial of an access to an address says.
+// The fault that a denial of an access to an address says. No `From`: it takes the address too.
 fn fault_at(address: u16, denial: Denial) -> Fault
     ensures value { result ≡ fault_at address denial }
 {
@@ -35,7 +35,7 @@ fn fault_at(address: u16, denial: Denial) -> Fault
     }
 }
 
-// The reply to a request with a function, for what its access answered.
+// The reply to a request with a function, for what its access answered. No `From`: a fault does not tell the function.
 pub(crate) fn reply_for(function: Function, answer: Result<Answer, Fault>) -> Reply
     ensures value { result ≡ reply_for function answer }
 {
@@ -46,7 +46,7 @@ pub(crate) fn reply_for(function: Function, answer: Result<Answer, Fault>) -> Re
     }
 }
 
-// What a reply answers to an access to an address.
+// What a reply answers to an access to an address. No `From`: a reply does not tell the address.
 pub(crate) fn answer_in(address: u16, reply: Reply) -> Result<Answer, Fault>
     ensures value { result ≡ answer_in address reply }
 {

@@ -44,14 +44,6 @@ fn reply_to<B: Bus>(bus: &mut B, access: Access, buffer: &mut [u8; ROOM]) -> usi
     pack_reply(reply_for(access.function(), answer), buffer).unwrap()
 }
 
-// Reads a byte string as a request.
-fn read_request(bytes: &[u8]) -> Result<Access, PacketRefusal>
-    ensures value { result ≡ request_of bytes.now }
-    ensures whole { OnlyRequests bytes.now }
-{
-    unpack_request(bytes)
-}
-
 // The far end: reads a request, carries out its access on a bus, writes the reply to the front of a buffer of at least 14
 // bytes, and says how many bytes it has. Bytes that are no request, and a buffer that is too small, are refused, and
 // nothing is carried out.
@@ -60,26 +52,19 @@ pub fn serve<B: Bus>(bus: &mut B, request: &[u8], buffer: &mut [u8]) -> Result<u
     ensures untouched { elim result [ Ok size ↦ Unit {0} | Err refusal ↦ bus.new ≡ bus.old ] }
     ensures whole { OnlyRequests request.now }
 {
-    let access = read_request(request)?;
+    let access = unpack_request(request)?;
     let Some(front) = buffer.first_chunk_mut::<ROOM>() else {
         return Err(PacketRefusal::Buffer);
     };
     Ok(reply_to(bus, access, front))
 }
 
-// Reads a byte string as the reply to an access.
-fn read_reply(access: Access, bytes: &[u8]) -> Result<Reply, PacketRefusal>
-    ensures value { result ≡ reply_read access bytes.now }
-    ensures whole { OnlyReplies access bytes.now }
-{
-    unpack_reply(access.function(), bytes)
-}
-
 // The near end, behind the line: what the reply to an access answers.
+#[tactic(auto, unfolding(crate::specs::Ends::reply_read))]
 pub fn answer_to(access: Access, bytes: &[u8]) -> Result<Result<Answer, Fault>, PacketRefusal>
     ensures value { result ≡ answered access bytes.now }
     ensures whole { OnlyReplies access bytes.now }
 {
-    let reply = read_reply(access, bytes)?;
+    let reply = unpack_reply(access.function(), bytes)?;
     Ok(answer_in(access.address(), reply))
 }

@@ -37,9 +37,7 @@ impl<B: Bus> PacketLink<B> {
     {
         self.below
     }
-}
 
-impl<B: Bus> PacketLink<B> {
     // Carries out an access on the bus below: as a request to the far end, and as a reply back.
     fn exchange(&mut self, access: Access) -> Result<Answer, Fault>
         ensures outcome { ended result (B.Bus.state self.new.below) ≡ carried access (B.Bus.state self.old.below) }

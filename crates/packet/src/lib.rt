@@ -14,6 +14,9 @@ use parts::Parts;
 pub use parts::ROOM;
 pub use refusal::PacketRefusal;
 
+// Requests and replies have a function each, both ways: they differ in what they carry, in what refuses them and in their
+// laws, and what they share is `Parts`.
+
 // Reads a byte string as a request.
 pub fn unpack_request(packet: &[u8]) -> Result<Access, PacketRefusal>
     ensures answer { result ≡ request_of packet.now }
@@ -40,13 +43,13 @@ pub fn pack_request(access: Access, buffer: &mut [u8]) -> Result<usize, PacketRe
     match access {
         Access::Read { address } => {
             let arguments = address.to_be_bytes();
-            Parts::plain(Function::Read, &arguments).write(buffer)
+            Parts::new(0, Function::Read, &arguments).write(buffer)
         }
         Access::Write { address, word } => {
             let [address_high, address_low] = address.to_be_bytes();
             let [word_high, word_low] = word.to_be_bytes();
             let arguments = [address_high, address_low, word_high, word_low];
-            Parts::plain(Function::Write, &arguments).write(buffer)
+            Parts::new(0, Function::Write, &arguments).write(buffer)
         }
     }
 }
@@ -58,9 +61,11 @@ pub fn pack_reply(reply: Reply, buffer: &mut [u8]) -> Result<usize, PacketRefusa
     ensures stands { ReplyStands reply }
 {
     match reply {
-        Reply::Read(Ok(word)) => Parts::plain(Function::Read, &word.to_be_bytes()).write(buffer),
-        Reply::Read(Err(denial)) => Parts::denied(Function::Read, denial).write(buffer),
-        Reply::Write(Ok(())) => Parts::plain(Function::Write, &[]).write(buffer),
-        Reply::Write(Err(denial)) => Parts::denied(Function::Write, denial).write(buffer),
+        Reply::Read(Ok(word)) => Parts::new(0, Function::Read, &word.to_be_bytes()).write(buffer),
+        Reply::Read(Err(denial)) => Parts::new(denial.status(), Function::Read, &[]).write(buffer),
+        Reply::Write(Ok(())) => Parts::new(0, Function::Write, &[]).write(buffer),
+        Reply::Write(Err(denial)) => {
+            Parts::new(denial.status(), Function::Write, &[]).write(buffer)
+        }
     }
 }

@@ -15,7 +15,7 @@ const PROCESS_CODE: u8 = 0x6E;
 // What a buffer has to hold: the largest packet, a write request.
 pub const ROOM: usize = 14;
 
-// What a packet says.
+// What a packet says. A status that is no denial's is refused only behind the test on the function: it stays a byte here.
 #[derive(Clone, Copy)]
 pub(crate) struct Parts<'a> {
     pub(crate) status: u8,
@@ -24,7 +24,18 @@ pub(crate) struct Parts<'a> {
 }
 
 impl<'a> Parts<'a> {
-    // Takes a packet apart, or refuses it by the first of its tests that fails.
+    // What a packet with a status, a function and arguments says.
+    pub(crate) fn new(status: u8, function: Function, arguments: &'a [u8]) -> Parts<'a>
+        ensures value { result ≡ record { status = status; function = function; arguments = arguments.entry } }
+    {
+        Parts {
+            status,
+            function,
+            arguments,
+        }
+    }
+
+    // Takes a packet apart, or refuses it by the first of its tests that fails; the last is that its function is known.
     pub(crate) fn open(packet: &'a [u8]) -> Result<Parts<'a>, PacketRefusal>
         ensures value { opened_content result ≡ then (content_of packet.now) known }
     {
@@ -33,8 +44,8 @@ impl<'a> Parts<'a> {
             status,
             reserved,
             function,
-            count_high,
-            count_low,
+            high,
+            low,
             _,
             _,
             arguments @ ..,
@@ -50,7 +61,7 @@ impl<'a> Parts<'a> {
         if !ends_in_checksum(&packet[..8]) {
             return Err(PacketRefusal::FrontChecksum);
         }
-        if arguments.len() != usize::from(u16::from_be_bytes([*count_high, *count_low])) {
+        if arguments.len() != usize::from(u16::from_be_bytes([*high, *low])) {
             return Err(PacketRefusal::Length);
         }
         if !ends_in_checksum(packet) {
@@ -59,11 +70,8 @@ impl<'a> Parts<'a> {
         if *reserved != 0 {
             return Err(PacketRefusal::Reserved);
         }
-        Ok(Parts {
-            status: *status,
-            function: Function::try_from(*function)?,
-            arguments,
-        })
+        let function = Function::try_from(*function)?;
+        Ok(Parts::new(*status, function, arguments))
     }
 
     // What the packet of a request asks for.
@@ -97,28 +105,6 @@ impl<'a> Parts<'a> {
             (Function::Write, 0, []) => Ok(Reply::Write(Ok(()))),
             (_, status, []) => Ok(Reply::denied(function, Denial::try_from(status)?)),
             _ => Err(PacketRefusal::Fields),
-        }
-    }
-
-    // A request, or the reply to an access that was carried out.
-    pub(crate) fn plain(function: Function, arguments: &'a [u8]) -> Parts<'a>
-        ensures value { result ≡ record { status = 0; function = function; arguments = arguments.entry } }
-    {
-        Parts {
-            status: 0,
-            function,
-            arguments,
-        }
-    }
-
-    // The reply to an access that was not carried out.
-    pub(crate) fn denied(function: Function, denial: Denial) -> Parts<'static>
-        ensures value { parts_content result ≡ content (denial_status denial) (function_code function) [] }
-    {
-        Parts {
-            status: denial.status(),
-            function,
-            arguments: &[],
         }
     }
 

@@ -3,20 +3,20 @@
 
 ghost use Rattle.stack.specs.Stacking.{bottom, links_of, stacked};
 ghost use Rattle.std.specs.Prelude.{◌≡◌};
-ghost use Rattle.std.proofs.Common.{rules};
 
 use camera::{Bus, Fault};
 use link::PacketLink;
 
-// How many links are laid over a bus.
-#[derive(Clone, Copy)]
+// How many links are laid over a bus: no more than two are a value.
+#[derive(Clone, Copy, Debug, PartialEq, Eq)]
 pub enum Links {
     None,
     One,
     Two,
 }
 
-// A bus with its links.
+// A bus with its links. Each of its methods has an arm for each number of links, since each number makes another type of
+// bus, and there are no trait objects here.
 #[derive(Drop)]
 pub enum Stack<B> {
     Direct(B),
@@ -73,7 +73,7 @@ impl<B: Bus> Stack<B> {
 impl<B: Bus> Bus for Stack<B> {
     ghost state = { λ stack. B.Bus.state (bottom stack) };
 
-    ghost possible = { Prim.search rules };
+    ghost possible = { λ stack. B.Bus.possible (bottom stack) };
 
     fn read(&mut self, address: u16) -> Result<u16, Fault> {
         match self {

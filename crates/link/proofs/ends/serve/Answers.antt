@@ -1,6 +1,6 @@
-use Rattle.std.proofs.Common.{sym, ◌∙◌}
+use Rattle.std.proofs.Common.{sym, ◌∙◌, arith}
 use Rattle.link.specs.Line.{carried}
-use Rattle.link.proofs.Crossing.{replied_in_front, served_there}
+use Rattle.link.proofs.Crossing.{only_requests, replied_in_front, served_there}
 use Rattle.link.proofs.ends.serve.Goals as goal
 
 pub returns-clause-outcome : goal.returns-clause-outcome
@@ -10,4 +10,13 @@ returns-clause-outcome g c =
     let s = g.B.Bus.state c.args.bus.now in
     replied_in_front access (carried access s) b c.in-Some.front.now c.reply_to.new.buffer c.reply_to.result (g.B.Bus.state c.reply_to.new.bus)
     c.in-Some.ensures.cases.same c.reply_to.ensures.outcome
-    ∙ sym (served_there c.args.request.now b access s c.in-Some.ensures.cases.enough (sym c.in_ok-access.ensures.value))
+    ∙ sym (served_there c.args.request.now b access s c.in-Some.ensures.cases.enough (sym c.in_ok-access.ensures.answer))
+
+pub returns-in_err-access-clause-whole : goal.returns-in_err-access-clause-whole
+returns-in_err-access-clause-whole g c = only_requests c.args.request.now (λ i. omega (arith, c.type_inv.request i))
+
+pub returns-in_default-clause-whole : goal.returns-in_default-clause-whole
+returns-in_default-clause-whole g c = only_requests c.args.request.now (λ i. omega (arith, c.type_inv.request i))
+
+pub returns-clause-whole : goal.returns-clause-whole
+returns-clause-whole g c = only_requests c.args.request.now (λ i. omega (arith, c.type_inv.request i))
