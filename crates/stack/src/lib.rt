@@ -16,7 +16,7 @@ pub enum Links {
 }
 
 // A bus with its links. Each of its methods has an arm for each number of links, since each number makes another type of
-// bus, and there are no trait objects here.
+// bus. A `dyn Bus` would lie on the heap, and could not be taken off again as the bus that it was.
 #[derive(Drop)]
 pub enum Stack<B> {
     Direct(B),
