@@ -30,7 +30,8 @@ pub fn word_at(words: &[u16], place: usize) -> u16
     words.get(place).copied().unwrap_or(0)
 }
 
-// The number in one word, or in two words with the low one first.
+// The number in one word, or in two words with the low one first. No codec, which would refuse words of another number: one
+// that is missing counts as 0.
 fn pair_number(words: &[u16]) -> u32
     ensures value { result ≡ pair_number words.now }
 {

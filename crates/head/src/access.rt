@@ -14,7 +14,7 @@ use words::code_byte;
 const BUSY_STATUS: u16 = 0x0007;
 
 // What an idle status word has beside the response code.
-const IDLE_STATUS: u16 = 6;
+const IDLE_STATUS: u8 = 6;
 
 impl Head {
     // The mode that the camera is in.
@@ -52,7 +52,7 @@ impl Head {
     {
         match register {
             Register::Power | Register::Command => 0,
-            Register::Status => 256 * u16::from(code_byte(self.inner.code)) + IDLE_STATUS,
+            Register::Status => u16::from_be_bytes([code_byte(self.inner.code), IDLE_STATUS]),
             Register::Length => self.inner.size,
             Register::Data(place) => word_at(&self.inner.data, usize::from(place)),
             Register::Block(place) => word_at(&self.inner.block, usize::from(place)),
