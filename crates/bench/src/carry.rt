@@ -1,12 +1,11 @@
 // Carries out a directive and prints what came of it.
 use crate::directive::Directive;
 use crate::error::ScriptError;
-use crate::fields::LARGEST_BUFFER;
 use crate::shown::{Hex, Shown, report};
 use crate::station::Station;
 use crate::value::ValueDirective;
 use crc::checksum;
-use packet::{PacketRefusal, pack_reply, pack_request, unpack_reply, unpack_request};
+use packet::{PacketRefusal, ROOM, pack_reply, pack_request, unpack_reply, unpack_request};
 use words::WrongSize;
 
 // Carries out a directive of any kind.
@@ -46,8 +45,9 @@ pub(crate) fn carry_out(
     Ok(())
 }
 
-// Packs a packet into a buffer of the size asked for, or one for any packet, each byte EE before, and prints the whole
-// buffer where its size was asked for, else the packet alone.
+// Packs a packet into a buffer of the size asked for, or one with room for any packet. Each byte of the buffer is EE at
+// first, so that those that the packet leaves alone can be seen. Prints the whole buffer where its size was asked for,
+// else the packet alone.
 fn print_packet<P: FnOnce(&mut [u8]) -> Result<usize, PacketRefusal>>(
     rt: &HostRuntime,
     name: &str,
@@ -56,7 +56,7 @@ fn print_packet<P: FnOnce(&mut [u8]) -> Result<usize, PacketRefusal>>(
 ) -> Result<(), ScriptError>
     requires callable { P.IsAlwaysCallable pack }
 {
-    let mut buffer = vec![in rt.alloc(); 0xEE; size.unwrap_or(LARGEST_BUFFER)]?;
+    let mut buffer = vec![in rt.alloc(); 0xEE; size.unwrap_or(ROOM)]?;
     let written = pack(buffer.as_mut_slice());
     if let (Ok(length), None) = (written, size) {
         buffer.truncate(length);

@@ -1,8 +1,8 @@
 // What a line of a script may ask for, and how a line is read.
 use crate::error::ScriptError;
-use crate::fields::{byte, each, number, size};
+use crate::fields::{byte, each, number, parse_access, size};
 use crate::head_directive::{HeadDirective, parse_head};
-use crate::value::{ValueDirective, parse_value};
+use crate::value::{Given, ValueDirective, parse_value};
 use packet::{Access, Denial, Function, Reply};
 use std::alloc::Global;
 
@@ -31,27 +31,28 @@ pub(crate) fn parse_line(heap: Global, line: &str) -> Result<Option<Directive>, 
     let fields: Vec<&str> = text.split_ascii_whitespace().collect(heap)?;
     match fields.as_slice() {
         [] => Ok(None),
-        [name, rest @ ..] => parse(heap, name, rest).map(Some),
+        fields => parse(heap, fields).map(Some),
     }
 }
 
-// The directive of a name and the fields behind it. The two stay apart, since one pattern takes both and the fields alone
-// are read on.
-fn parse(heap: Global, name: &str, fields: &[&str]) -> Result<Directive, ScriptError> {
-    match (name, fields) {
-        ("crc", _) => Ok(Directive::Crc(each(heap, fields, byte)?)),
-        ("request", _) => parse_request(fields),
-        ("reply", _) => parse_reply(fields),
-        ("unpack-request", _) => Ok(Directive::UnpackRequest(each(heap, fields, byte)?)),
-        ("unpack-reply", [function, rest @ ..]) => Ok(Directive::UnpackReply(
-            parse_function(function)?,
-            each(heap, rest, byte)?,
-        )),
-        ("put" | "take", [kind, rest @ ..]) => Ok(Directive::Value(parse_value(
-            heap, name, kind, rest,
-        )?)),
-        _ => Ok(Directive::Head(parse_head(heap, name, fields)?)),
-    }
+// The directive of fields, whose first is its name.
+fn parse(heap: Global, fields: &[&str]) -> Result<Directive, ScriptError> {
+    let directive = match fields {
+        ["crc", bytes @ ..] => Directive::Crc(each(heap, bytes, byte)?),
+        ["request", rest @ ..] => parse_request(rest)?,
+        ["reply", rest @ ..] => parse_reply(rest)?,
+        ["unpack-request", bytes @ ..] => Directive::UnpackRequest(each(heap, bytes, byte)?),
+        ["unpack-reply", function, bytes @ ..] => {
+            let function = parse_function(function)?;
+            Directive::UnpackReply(function, each(heap, bytes, byte)?)
+        }
+        ["put", kind, text] => Directive::Value(parse_value(heap, kind, Given::Value(text))?),
+        ["take", kind, words @ ..] => {
+            Directive::Value(parse_value(heap, kind, Given::Words(words))?)
+        }
+        _ => Directive::Head(parse_head(heap, fields)?),
+    };
+    Ok(directive)
 }
 
 // A buffer's size at the end of a line, or none.
@@ -65,18 +66,7 @@ fn parse_size(fields: &[&str]) -> Result<Option<usize>, ScriptError> {
 
 // An access, and the size of the buffer for its packet.
 fn parse_request(fields: &[&str]) -> Result<Directive, ScriptError> {
-    let (access, rest) = match fields {
-        ["read", address, rest @ ..] => {
-            let address = number(address)?;
-            (Access::Read { address }, rest)
-        }
-        ["write", address, word, rest @ ..] => {
-            let address = number(address)?;
-            let word = number(word)?;
-            (Access::Write { address, word }, rest)
-        }
-        _ => return Err(ScriptError::Directive),
-    };
+    let (access, rest) = parse_access(fields)?;
     Ok(Directive::Request(access, parse_size(rest)?))
 }
 

@@ -3,6 +3,7 @@ use std::alloc::AllocError;
 use std::io;
 use thiserror::Error;
 
+// Why the run of a script ends before the script does: what is printed behind the number of the line.
 #[derive(Debug, Drop, Error)]
 pub(crate) enum ScriptError {
     // a first word that is no directive, or the wrong fields behind it

@@ -1,12 +1,13 @@
-// The fields of a script line as numbers and bytes.
+// The fields of a script line as numbers, bytes and accesses.
 ghost use Rattle.std.specs.Prelude.{◌≤◌, IfOk};
 
 use crate::error::ScriptError;
+use packet::Access;
 use std::alloc::Global;
 use std::num::TryFromIntError;
 
 // The largest buffer that a script may ask for.
-pub(crate) const LARGEST_BUFFER: usize = 1024;
+const LARGEST_BUFFER: usize = 1024;
 
 // A number that fits its type, in digits of a radix and nothing else.
 fn in_radix<N: TryFrom<u64, Error = TryFromIntError>>(digits: &str, radix: u32) -> Option<N>
@@ -64,6 +65,24 @@ pub(crate) fn byte(text: &str) -> Result<u8, ScriptError> {
         return Err(ScriptError::Byte);
     }
     in_radix(text, 16).ok_or(ScriptError::Byte)
+}
+
+// The access that fields begin with, and the fields behind it.
+pub(crate) fn parse_access<'a>(
+    fields: &'a [&'a str],
+) -> Result<(Access, &'a [&'a str]), ScriptError> {
+    match fields {
+        ["read", address, rest @ ..] => {
+            let address = number(address)?;
+            Ok((Access::Read { address }, rest))
+        }
+        ["write", address, word, rest @ ..] => {
+            let address = number(address)?;
+            let word = number(word)?;
+            Ok((Access::Write { address, word }, rest))
+        }
+        _ => Err(ScriptError::Directive),
+    }
 }
 
 // What each of the fields is read as.

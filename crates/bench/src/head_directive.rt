@@ -1,7 +1,8 @@
 // What a line of a script may ask of a camera head.
 use crate::error::ScriptError;
-use crate::fields::{decimal_word, each, number};
+use crate::fields::{decimal_word, each, number, parse_access};
 use camera::Attribute;
+use packet::Access;
 use stack::Links;
 use std::alloc::Global;
 
@@ -17,45 +18,55 @@ const MOST_PIXELS: usize = 65_535;
 // A setting of the next head.
 #[derive(Drop)]
 pub(crate) enum Setting {
+    // how many boot polls it has
     Boot(u16),
+    // its serial number
     Serial(u64),
+    // the temperature of its sensor
     Fpa(u16),
+    // the numbers of busy polls for its coming commands
     Busy(Vec<u16>),
+    // whether each of its coming accesses is acknowledged
     Acks(Vec<bool>),
+    // how many packet links are laid over it
     Links(Links),
 }
 
 // What a line asks of the next head, or of the head that there is.
 #[derive(Drop)]
 pub(crate) enum HeadDirective {
+    // a setting of the next head
     Set(Setting),
+    // to make the next head
     Make,
-    Read(u16),
-    Write(u16, u16),
+    // an access over the links of the head that there is
+    Access(Access),
+    // a frame for its sensor, by its pixels
     Frame(Vec<u16>),
+    // to print what state the head is in
     State,
+    // to print the words that an attribute shows, by its number
     Attribute(u16),
 }
 
-// The directive of a name and the fields behind it.
-pub(crate) fn parse_head(
-    heap: Global,
-    name: &str,
-    fields: &[&str],
-) -> Result<HeadDirective, ScriptError> {
-    let directive = match (name, fields) {
-        ("boot", [polls]) => HeadDirective::Set(Setting::Boot(number(polls)?)),
-        ("serial", [serial]) => HeadDirective::Set(Setting::Serial(number(serial)?)),
-        ("fpa", [temperature]) => HeadDirective::Set(Setting::Fpa(number(temperature)?)),
-        ("busy", _) => HeadDirective::Set(Setting::Busy(parse_busy(heap, fields)?)),
-        ("acks", _) => HeadDirective::Set(Setting::Acks(parse_marks(heap, fields)?)),
-        ("links", [count]) => HeadDirective::Set(Setting::Links(parse_links(count)?)),
-        ("make", []) => HeadDirective::Make,
-        ("read", [address]) => HeadDirective::Read(number(address)?),
-        ("write", [address, word]) => HeadDirective::Write(number(address)?, number(word)?),
-        ("frame", _) => HeadDirective::Frame(parse_frame(heap, fields)?),
-        ("state", []) => HeadDirective::State,
-        ("attribute", [number]) => HeadDirective::Attribute(parse_attribute(number)?),
+// The directive of fields, whose first is its name.
+pub(crate) fn parse_head(heap: Global, fields: &[&str]) -> Result<HeadDirective, ScriptError> {
+    let directive = match fields {
+        ["boot", polls] => HeadDirective::Set(Setting::Boot(number(polls)?)),
+        ["serial", serial] => HeadDirective::Set(Setting::Serial(number(serial)?)),
+        ["fpa", temperature] => HeadDirective::Set(Setting::Fpa(number(temperature)?)),
+        ["busy", polls @ ..] => HeadDirective::Set(Setting::Busy(parse_busy(heap, polls)?)),
+        ["acks", marks @ ..] => HeadDirective::Set(Setting::Acks(parse_marks(heap, marks)?)),
+        ["links", count] => HeadDirective::Set(Setting::Links(parse_links(count)?)),
+        ["make"] => HeadDirective::Make,
+        // the access alone: with a field too many, no directive has this form, whatever the others are
+        ["read", _] | ["write", _, _] => {
+            let (access, _) = parse_access(fields)?;
+            HeadDirective::Access(access)
+        }
+        ["frame", runs @ ..] => HeadDirective::Frame(parse_frame(heap, runs)?),
+        ["state"] => HeadDirective::State,
+        ["attribute", number] => HeadDirective::Attribute(parse_attribute(number)?),
         _ => return Err(ScriptError::Directive),
     };
     Ok(directive)

@@ -1,6 +1,7 @@
 // What came of a directive, as it is printed.
 use crate::error::ScriptError;
 use camera::Fault;
+use head::HeadReport;
 use packet::{Access, Denial, Reply};
 use std::fmt;
 use std::fmt::{Display, HasDigits};
@@ -10,7 +11,8 @@ use words::Region;
 #[derive(Drop)]
 pub(crate) struct Shown<T>(pub(crate) T);
 
-// Bytes or words, each in so many capital hexadecimal digits, with a blank before.
+// Bytes or words, each in so many capital hexadecimal digits, with a blank before. DIGITS follows from the type, but is
+// said: `size_of::<T>() * 2` is not covered by the borrow check, and `2 * size_of::<T>()` leaves open that it fits.
 #[derive(Drop)]
 pub(crate) struct Hex<'a, T, const DIGITS: usize>(pub(crate) &'a [T]);
 
@@ -66,6 +68,27 @@ impl Display for Shown<Region> {
             end_row,
         } = self.0;
         write!(f, "{start_column},{start_row},{end_column},{end_row}")
+    }
+}
+
+// The state of a head: its plain values, each behind its name.
+impl Display for Shown<HeadReport> {
+    fn fmt<W: fmt::Write>(&self, f: &mut fmt::Formatter<W>) -> fmt::Result {
+        let HeadReport {
+            hung,
+            boot,
+            busy,
+            code,
+            count,
+            size,
+            saved,
+        } = self.0;
+        let hung = Shown(hung);
+        let saved = Shown(saved);
+        write!(
+            f,
+            "hung {hung} boot {boot} busy {busy} code {code} count {count} length {size} saved {saved}"
+        )
     }
 }
 

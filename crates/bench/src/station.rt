@@ -3,7 +3,8 @@ use crate::error::ScriptError;
 use crate::head_directive::{HeadDirective, Setting};
 use crate::shown::{Hex, Shown, WordRead, report};
 use camera::Bus;
-use head::{Head, HeadReport, HeadSettings};
+use head::{Head, HeadSettings};
+use packet::Access;
 use stack::{Links, Stack};
 use std::alloc::Global;
 
@@ -43,11 +44,11 @@ impl Station {
                 Ok(())
             }
             HeadDirective::Make => self.make(rt),
-            HeadDirective::Read(address) => {
+            HeadDirective::Access(Access::Read { address }) => {
                 let answer = self.stack()?.read(address);
                 report(rt, "read", answer.map(WordRead).map_err(Shown))
             }
-            HeadDirective::Write(address, word) => {
+            HeadDirective::Access(Access::Write { address, word }) => {
                 let answer = self.stack()?.write(address, word);
                 report(rt, "write", answer.map(|()| "ok").map_err(Shown))
             }
@@ -80,7 +81,8 @@ impl Station {
         }
     }
 
-    // Makes a head from the settings, which stay for later heads.
+    // Makes a head from the settings, which stay for later heads. They are copied field by field: a `Clone` of
+    // `HeadSettings` would be a public function below the programs that can fail for want of memory.
     fn make(&mut self, rt: &HostRuntime) -> Result<(), ScriptError> {
         let settings = HeadSettings {
             busy: self.settings.busy.clone()?,
@@ -97,7 +99,8 @@ impl Station {
         report(rt, "make", outcome)
     }
 
-    // The sensor's frame goes to the head itself: the links are taken off for it and laid again.
+    // The sensor's frame goes to the head itself. A stack lends the bus below its links only to be looked at, so the
+    // links are taken off for it and laid again.
     fn load_frame(&mut self, rt: &HostRuntime, pixels: Vec<u16>) -> Result<(), ScriptError> {
         let stack = self.stack.take().ok_or(ScriptError::NoHead)?;
         let links = stack.links();
@@ -111,22 +114,10 @@ impl Station {
         )
     }
 
-    // Prints the head's state as plain values.
+    // Prints the head's state. The bench keeps no session with the camera: it is named as one that was never begun.
     fn print_state(&self, rt: &HostRuntime) -> Result<(), ScriptError> {
-        let HeadReport {
-            hung,
-            boot,
-            busy,
-            code,
-            count,
-            size,
-            saved,
-        } = self.head()?.report();
-        let hung = Shown(hung);
-        let saved = Shown(saved);
-        println!(rt;
-            "state session asleep hung {hung} boot {boot} busy {busy} code {code} count {count} length {size} saved {saved}"
-        )?;
+        let state = Shown(self.head()?.report());
+        println!(rt; "state session asleep {state}")?;
         Ok(())
     }
 

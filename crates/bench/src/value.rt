@@ -16,29 +16,36 @@ pub(crate) enum ValueDirective {
     Take(Result<String, WrongSize>),
 }
 
-// The directive of a name and a kind's name, and of the fields behind them. Each kind has a way in which its values are
-// written and one in which they are shown.
+// A value as a line gives it.
+#[derive(Clone, Copy)]
+pub(crate) enum Given<'a> {
+    // as a script writes it, to be put into words
+    Value(&'a str),
+    // as words, to be taken for the value
+    Words(&'a [&'a str]),
+}
+
+// The directive on a value of a kind, given by the kind's name. Each kind has a way in which its values are written and
+// one in which they are shown.
 pub(crate) fn parse_value(
     heap: Global,
-    name: &str,
     kind: &str,
-    fields: &[&str],
+    given: Given,
 ) -> Result<ValueDirective, ScriptError> {
     match kind {
-        "single" => parse_kind(heap, name, fields, number::<u16>, identity),
-        "pair" => parse_kind(heap, name, fields, number::<u32>, identity),
-        "signed" => parse_kind(heap, name, fields, signed_number, identity),
-        "quad" => parse_kind(heap, name, fields, number::<u64>, identity),
-        "region" => parse_kind(heap, name, fields, |text| parse_region(heap, text), Shown),
+        "single" => parse_kind(heap, given, number::<u16>, identity),
+        "pair" => parse_kind(heap, given, number::<u32>, identity),
+        "signed" => parse_kind(heap, given, signed_number, identity),
+        "quad" => parse_kind(heap, given, number::<u64>, identity),
+        "region" => parse_kind(heap, given, |text| parse_region(heap, text), Shown),
         _ => Err(ScriptError::Directive),
     }
 }
 
-// The directive of a name and fields, on values of a kind that are written and shown in a way.
+// The directive on a value of a kind whose values are written and shown in a way.
 fn parse_kind<C, D, P, S>(
     heap: Global,
-    name: &str,
-    fields: &[&str],
+    given: Given,
     parse: P,
     shown: S,
 ) -> Result<ValueDirective, ScriptError>
@@ -50,23 +57,22 @@ where
     requires parse { P.IsAlwaysCallable parse }
     requires shown { S.IsAlwaysCallable shown }
 {
-    match (name, fields) {
-        ("put", [text]) => {
+    match given {
+        Given::Value(text) => {
             let value = parse(text)?;
             let mut words = vec![in heap; 0; C::word_count()]?;
-            match value.put(words.as_mut_slice()) {
-                Ok(()) => Ok(ValueDirective::Put(words)),
-                Err(WrongSize) => Err(ScriptError::Number),
-            }
+            value
+                .put(words.as_mut_slice())
+                .map_err(|_| ScriptError::Number)?;
+            Ok(ValueDirective::Put(words))
         }
-        ("take", _) => {
+        Given::Words(fields) => {
             let words = each(heap, fields, number::<u16>)?;
             match C::take(words.as_slice()) {
                 Ok(value) => Ok(ValueDirective::Take(Ok(shown(value).to_string(heap)?))),
                 Err(refusal) => Ok(ValueDirective::Take(Err(refusal))),
             }
         }
-        _ => Err(ScriptError::Directive),
     }
 }
 
