@@ -22,7 +22,8 @@ pub enum Refusal {
     WrongSize,
     // 7: the budget is not 1 to 1,000 status reads
     BadBudget,
-    // 8: an access was not acknowledged. (A session's accesses never meet the other fault, that there is no register.)
+    // 8: an access was not acknowledged. The other fault, that there is no register at an address, has its own number, 22; a
+    // session's accesses never meet it
     Bus(Fault),
     // 9: the camera was still booting or busy after all budgeted status reads
     StillBusy,
@@ -53,7 +54,7 @@ impl Refusal {
             Refusal::WrongSize => 6,
             Refusal::BadBudget => 7,
             Refusal::Bus(Fault::NotAcknowledged { .. }) => 8,
-            Refusal::Bus(Fault::NoRegister { .. }) => 22,
+            Refusal::Bus(fault) => fault.number(),
             Refusal::StillBusy => 9,
             Refusal::Camera(_) => 10,
         }

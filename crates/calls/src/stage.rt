@@ -1,5 +1,4 @@
-// How far a command has come whose word the camera has taken and whose answer is still owed.
-
+// How far a command has come: the camera has taken its command word, and still owes the answer.
 #[derive(Clone, Copy, Debug, PartialEq, Eq)]
 pub enum Stage {
     // it waits until the camera is no longer busy

@@ -50,7 +50,7 @@ pub enum Name {
 // Which words may be set.
 #[derive(Clone, Copy, Debug, PartialEq, Eq)]
 pub enum Limits {
-    // none: the attribute cannot be set
+    // none: only attributes without a set have it
     Fixed,
     // every value
     Any,
@@ -67,22 +67,28 @@ pub enum Limits {
 // One row of the table of attributes.
 #[derive(Clone, Copy, Debug, PartialEq, Eq)]
 pub struct Attribute {
+    // what it is called, in the order of the numbers
     pub name: Name,
     // its command words without type and protection bit
     pub base: u16,
     // how many words it has
     pub words: u16,
+    // which kinds of command it has
     pub kinds: Kinds,
+    // which words a set may give it
     pub limits: Limits,
-    // its first words when the camera is made; the others are 0
+    // its first words when the camera is made; the others are 0. Four, since the longest that is not all 0 is the focus
+    // region's
     pub start: [u16; 4],
 }
 
-// The sensor's size in pixels.
+// The sensor's width in pixels.
 pub const COLUMNS: u16 = 80;
 
+// The sensor's height in pixels.
 pub const ROWS: u16 = 60;
 
+// The sets of kinds that attributes have. Each name says the kinds.
 const GET: Kinds = Kinds {
     gets: true,
     sets: false,
@@ -235,6 +241,8 @@ const ATTRIBUTES: [Attribute; 20] = [
         limits: Limits::Fixed,
         start: [0, 0, 0, 0],
     },
+    // It has no set, so no command is judged by its limits. They say what always holds of it: its word is never above the
+    // greatest pixel.
     Attribute {
         name: Name::FrameMean,
         base: 0x084C,
@@ -277,8 +285,10 @@ const ATTRIBUTES: [Attribute; 20] = [
     },
 ];
 
-// The numbers of attributes that have rules of their own. What is asked of an attribute is asked of its number, a u16 and no
-// Name: any number of sixteen bits may come, and one that no attribute has is answered by a rule and not kept from the camera.
+// The numbers of the attributes that have rules of their own: STATUS, SERIAL_NUMBER, FPA_TEMPERATURE, COLOUR_TABLE, FRAME_MEAN,
+// USER_DEFAULTS and RESTORE. What is asked of an attribute is asked of its number, a u16 and no Name: any number of sixteen
+// bits may come, and one that no attribute has is answered by a rule and not kept from the camera. So the code here and in the
+// head compares and matches a number with these constants.
 pub const STATUS: u16 = Name::Status as u16;
 
 pub const SERIAL_NUMBER: u16 = Name::SerialNumber as u16;
@@ -299,7 +309,7 @@ impl Attribute {
     pub fn of(number: u16) -> Option<Attribute>
         ensures value { result ≡ attribute_at number }
     {
-        ATTRIBUTES.get(number as usize).copied()
+        ATTRIBUTES.get(usize::from(number)).copied()
     }
 
     // Whether it has a kind of command.

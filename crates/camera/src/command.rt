@@ -7,6 +7,26 @@ ghost use Rattle.std.specs.Prelude.{◌≡◌, ◌≤◌};
 use crate::attribute::{Attribute, Kind, size_of};
 use crate::directory::attribute_in;
 
+// The fields of a command word, the lowest first: the type bits, the command, the module, and what stands above the module.
+// Command and module together are a place of the directory.
+const TYPE_MASK: u16 = 0x0003;
+
+const PLACE_SHIFT: u32 = 2;
+
+const PLACE_MASK: u16 = 0x03FF;
+
+const MODULE_SHIFT: u32 = 8;
+
+const MODULE_MASK: u16 = 0x000F;
+
+const TOP_SHIFT: u32 = 12;
+
+// The module whose commands are protected.
+const PROTECTED_MODULE: u16 = 8;
+
+// The protection bit, as it stands above the module.
+const PROTECTION_BIT: u16 = 4;
+
 // A command: its kind, and the number of the attribute.
 #[derive(Clone, Copy, Debug, PartialEq, Eq)]
 pub struct Command {
@@ -22,7 +42,8 @@ impl Kind {
         self as u16
     }
 
-    // The kind that type bits ask for, if there is one.
+    // The kind that type bits ask for, if there is one. An Option and no TryFrom, as for a command: `Command::of` alone asks, and
+    // passes on no more than None, so that an error type, which would be public as Kind is, would have nothing to say.
     fn of(bits: u16) -> Option<Kind>
         ensures value { result ≡ kind_of bits }
     {
@@ -39,7 +60,11 @@ impl Kind {
 fn protection_of(word: u16) -> u16
     ensures value { result ≡ protection (module_of word) }
 {
-    if word / 256 % 16 == 8 { 4 } else { 0 }
+    if word >> MODULE_SHIFT & MODULE_MASK == PROTECTED_MODULE {
+        PROTECTION_BIT
+    } else {
+        0
+    }
 }
 
 impl Command {
@@ -66,21 +91,21 @@ impl Command {
         ensures value { result ≡ word_of self }
     {
         let found = Attribute::of(self.number)?;
-        Some(found.base + self.kind.type_bits() + 4096 * protection_of(found.base))
+        Some(found.base + self.kind.type_bits() + (protection_of(found.base) << TOP_SHIFT))
     }
 
     // What a command word asks for, or nothing if it is none. An Option and no TryFrom: a word is no command in one way only, and
-    // an error type would say no more than None.
+    // an error type would say no more than None. It is a public function, and stays one that answers an Option.
     #[tactic(auto, using(crate::proofs::CommandWords::one_word))]
     pub fn of(word: u16) -> Option<Command>
         ensures value { result ≡ command_of word }
         ensures stands { OneWord word }
     {
-        let number = attribute_in(word / 4 % 1024)?;
-        if word / 4096 != protection_of(word) {
+        let number = attribute_in(word >> PLACE_SHIFT & PLACE_MASK)?;
+        if word >> TOP_SHIFT != protection_of(word) {
             return None;
         }
-        let kind = Kind::of(word % 4)?;
+        let kind = Kind::of(word & TYPE_MASK)?;
         Some(Command { kind, number })
     }
 }

@@ -6,7 +6,8 @@ ghost use Rattle.std.specs.Prelude.{◌≡◌, ◌<◌, ◌==◌, cond, None, So
 const NO_ATTRIBUTE: u8 = 255;
 
 // The attribute at 64 times the module plus the command. The table is made from the bases of the attributes, and its
-// proof computes every entry again from that rule.
+// proof computes every entry again from that rule. Its form is the project's: a byte for each of 1,024 places, and 255
+// where no attribute is.
 const DIRECTORY: [u8; 1024] = [
     255, 255, 255, 255, 255, 255, 255, 255, 255, 255, 255, 255, 255, 255, 255, 255, 255, 255, 255,
     255, 255, 255, 255, 255, 255, 255, 255, 255, 255, 255, 255, 255, 255, 255, 255, 255, 255, 255,
@@ -69,7 +70,7 @@ fn directory_entry(place: u16) -> u8
     requires { place < 1024 }
     ensures value { result ≡ attribute_in place }
 {
-    DIRECTORY[place as usize]
+    DIRECTORY[usize::from(place)]
 }
 
 // The number of the attribute that has a place of the directory, if one has it.

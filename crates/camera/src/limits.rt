@@ -1,5 +1,5 @@
 // Which words an attribute may be set to.
-ghost use Rattle.camera.specs.Attributes.{all_at_most, colour_fits, colours_fit, pair_number, region_fits, span_fits, within};
+ghost use Rattle.camera.specs.Attributes.{all_at_most, colours_fit, pair_number, region_fits, span_fits, within};
 ghost use Rattle.std.specs.Prelude.{◌≡◌, slice_index};
 
 use crate::attribute::{COLUMNS, Limits, ROWS};
@@ -52,25 +52,17 @@ fn span_fits(edge: u16, start: u16, end: u16) -> bool
 fn region_fits(width: u16, height: u16, words: &[u16]) -> bool
     ensures value { result ≡ region_fits width height words.now }
 {
-    span_fits(width, word_at(words, 0), word_at(words, 2))
-        && span_fits(height, word_at(words, 1), word_at(words, 3))
-}
-
-// Whether a word may stand at a place of the colour table: the first word of an entry has a high byte of 0.
-fn colour_fits(place: usize, word: u16) -> bool
-    ensures value { result ≡ colour_fits place word }
-{
-    place % 2 != 0 || word <= 255
+    let &[start_column, start_row, end_column, end_row, ..] = words else {
+        return false;
+    };
+    span_fits(width, start_column, end_column) && span_fits(height, start_row, end_row)
 }
 
 // Whether words may be the colour table.
 fn colours_fit(words: &[u16]) -> bool
     ensures value { result ≡ colours_fit 0 words.now }
 {
-    words
-        .iter()
-        .enumerate()
-        .all(|(place, word)| colour_fits(place, *word))
+    words.iter().step_by(2).all(|word| *word <= 255)
 }
 
 // Whether no word is above a greatest one.

@@ -21,8 +21,8 @@ pub enum Register {
     Block(u16),
 }
 
-// The register at an address. A function and no TryFrom: a register could be made from its address or from its place among
-// others, both of them a u16, and the name says which.
+// The register at an address. This is the public function whose contract has the law, and its form, by ranges of addresses, is
+// the project's. A TryFrom would say the same, with the law in a ghost member.
 #[tactic(auto, using(crate::proofs::Addresses::one_address))]
 pub fn decode(address: u16) -> Result<Register, Fault>
     ensures value { result ≡ register_at address }

@@ -35,7 +35,7 @@ const TABLE: [u16; 256] = [
 fn entry(top: u8) -> u16
     ensures value { result ≡ table_entry 8 top }
 {
-    TABLE[top as usize]
+    TABLE[usize::from(top)]
 }
 
 // The register after one more byte.

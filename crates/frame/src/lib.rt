@@ -59,7 +59,7 @@ pub fn frame_mean(pixels: &[u16]) -> Result<u16, FrameRefusal>
 mod tests {
     use super::*;
 
-    // The mean, or the number of the refusal.
+    // The mean, or the number of the refusal: the numbers are what is published.
     fn outcome(pixels: &[u16]) -> Result<u16, u8> {
         frame_mean(pixels).map_err(FrameRefusal::number)
     }

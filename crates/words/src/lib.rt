@@ -106,6 +106,9 @@ pub trait WordCodec: Copy {
     ghost codec: { IsCodec count fits encoded decoded };
 }
 
+// Five implementations, one for each kind of value, are the form of the project. What those for numbers share is in `low_words`
+// and `number_of`; the rest of each is its size and its type.
+
 // A single: a number of one word.
 impl WordCodec for u16 {
     ghost count = { 1 };
@@ -215,7 +218,8 @@ pub struct Region {
     pub end_row: u16,
 }
 
-// A region has a word for each of its numbers, in the order of its fields.
+// A region has a word for each of its numbers, in the order of its fields. There is no From to and from four numbers: it would
+// have this list and this pattern too, each under the head of one more implementation.
 impl WordCodec for Region {
     ghost count = { 4 };
 
@@ -256,8 +260,9 @@ impl WordCodec for Region {
     }
 }
 
-// A total order of values: any two can be compared. One body of `at_most` for all types would go by `<=`, and so ask of each
-// type with a total order that it is `PartialOrd` too; each implementation writes its line.
+// A total order of values: any two can be compared. It is not std's Ord, whose laws know equal values only as those that `==`
+// takes for equal: here two values, each at most the other, are the same value. One body of `at_most` for all types would go
+// by `<=`, and so ask of each type with a total order that it is `PartialOrd` too; each implementation writes its line.
 pub trait TotalOrder {
     // whether a value is below another or the same
     ghost leq: { Self → Self → Bool };

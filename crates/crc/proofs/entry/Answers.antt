@@ -6,4 +6,4 @@ use Rattle.crc.proofs.entry.Goals as goal
 
 pub returns : goal.returns
 unfolding shift_bit shift
-returns c = record { value = get_or-map-range_with_len (table_entry 8) 0 256 c.args.top c.args.top 0 (omega arith) (omega arith) }
+returns c = record { value = get_or-map-range_with_len (table_entry 8) 0 256 c.from.result c.args.top 0 (omega arith) (omega arith) }

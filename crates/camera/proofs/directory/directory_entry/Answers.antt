@@ -6,4 +6,4 @@ use Rattle.camera.proofs.directory.directory_entry.Goals as goal
 
 pub returns : goal.returns
 unfolding attribute_in
-returns c = record { value = get_or-map-range_with_len attribute_in 0 1024 c.args.place c.args.place 0 c.requires (omega arith) }
+returns c = record { value = get_or-map-range_with_len attribute_in 0 1024 c.from.result c.args.place 0 (omega arith) (omega arith) }
