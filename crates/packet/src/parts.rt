@@ -12,6 +12,9 @@ use crc::checksum;
 // The process code, with which every packet starts.
 const PROCESS_CODE: u8 = 0x6E;
 
+// The status of a packet that carries no denial: of a request, and of a reply to an access that was carried out.
+pub(crate) const NO_DENIAL: u8 = 0;
+
 // What a buffer has to hold: the largest packet, a write request.
 pub const ROOM: usize = 14;
 
@@ -79,10 +82,10 @@ impl<'a> Parts<'a> {
         ensures value { result ≡ access_of (parts_content self.entry) }
     {
         match (self.function, self.status, self.arguments) {
-            (Function::Read, 0, [high, low]) => Ok(Access::Read {
+            (Function::Read, NO_DENIAL, [high, low]) => Ok(Access::Read {
                 address: u16::from_be_bytes([*high, *low]),
             }),
-            (Function::Write, 0, [high, low, word_high, word_low]) => Ok(Access::Write {
+            (Function::Write, NO_DENIAL, [high, low, word_high, word_low]) => Ok(Access::Write {
                 address: u16::from_be_bytes([*high, *low]),
                 word: u16::from_be_bytes([*word_high, *word_low]),
             }),
@@ -98,11 +101,11 @@ impl<'a> Parts<'a> {
             return Err(PacketRefusal::WrongFunction);
         }
         match (function, self.status, self.arguments) {
-            (Function::Read, 0, [high, low]) => {
+            (Function::Read, NO_DENIAL, [high, low]) => {
                 let word = u16::from_be_bytes([*high, *low]);
                 Ok(Reply::Read(Ok(word)))
             }
-            (Function::Write, 0, []) => Ok(Reply::Write(Ok(()))),
+            (Function::Write, NO_DENIAL, []) => Ok(Reply::Write(Ok(()))),
             (_, status, []) => Ok(Reply::denied(function, Denial::try_from(status)?)),
             _ => Err(PacketRefusal::Fields),
         }
@@ -118,7 +121,7 @@ impl<'a> Parts<'a> {
             return Err(PacketRefusal::Buffer);
         }
         let [count_high, count_low] = (self.arguments.len() as u16).to_be_bytes();
-        let function = self.function.code();
+        let function = u8::from(self.function);
         let front = [
             PROCESS_CODE,
             self.status,

@@ -22,7 +22,7 @@ returns c =
     let n : ℕ = length p.arguments in
     let line : ℕ → List ℕ → List ℕ = λ function count. process_code ∷ p.status ∷ 0 ∷ function ∷ get_or count 0 0 ∷ get_or count 1 0 ∷ [] in
     let six : c.copy_from_slice.new.self ≡ front p =
-    c.copy_from_slice.ensures.after ∙ ap₂ line c.code-function.ensures.value (c.to_be_bytes.ensures ∙ sent n (omega arith)) in
+    c.copy_from_slice.ensures.after ∙ ap₂ line c.from-function.ensures (c.to_be_bytes.ensures ∙ sent n (omega arith)) in
     let eight : c.seal.new.buffer ≡ over (with_checksum (front p)) b =
     c.seal.ensures.after ∙ ap (λ x. laid (x ++ drop 6 b) 6 (crc_bytes (crc_of (take 6 (x ++ drop 6 b))))) six ∙ over_sealed (front p) b 6 refl in
     let copied : List ℕ → List ℕ → List ℕ = λ x part. take 8 x ++ (part ++ drop (8 + n - 8) (drop 8 x)) in
