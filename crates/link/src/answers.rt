@@ -6,7 +6,7 @@ use camera::Fault;
 use packet::{Access, Denial, Function, Reply};
 
 // What an access answers that was carried out. It has the shape of an `Option<u16>`, but nothing is absent where a write
-// is done: a `None` would read as no answer, and no method of `Option` would have a use here.
+// is done: a `None` would read as no answer.
 #[derive(Clone, Copy, Debug, PartialEq, Eq)]
 pub enum Answer {
     // the word of a read

@@ -1,6 +1,6 @@
 // The two ends of a line that carries accesses as packets. Each end works on bytes alone, so that they can stand in two
 // programs.
-ghost use Rattle.std.specs.Prelude.{◌≡◌, ◌≤◌, length, Ok, Err};
+ghost use Rattle.std.specs.Prelude.{◌≡◌, ◌≤◌, length, Ok, Err, OnErr};
 ghost use Rattle.camera.specs.Steps.{ended};
 ghost use Rattle.link.specs.Ends.{OnlyReplies, OnlyRequests, answered, far_end, reply_read, reply_to, served};
 ghost use Rattle.link.specs.Line.{carried};
@@ -14,7 +14,8 @@ use packet::{
 };
 
 // The near end, before the line: writes the request for an access to the front of a buffer of at least 14 bytes, and says
-// how many bytes it has.
+// how many bytes it has. It is `pack_request` under the name of its place, so that the near end before the line has a
+// function of its own, as the near end behind it and the far end have.
 pub fn ask(access: Access, buffer: &mut [u8]) -> Result<usize, PacketRefusal>
     ensures answer { result ≡ written (request_packet access) buffer.old }
     ensures after { buffer.new ≡ buffer_after (request_packet access) buffer.old }
@@ -49,13 +50,13 @@ fn reply_to<B: Bus>(bus: &mut B, access: Access, buffer: &mut [u8; ROOM]) -> usi
 // nothing is carried out.
 pub fn serve<B: Bus>(bus: &mut B, request: &[u8], buffer: &mut [u8]) -> Result<usize, PacketRefusal>
     ensures outcome { ended result (far_end buffer.new (B.Bus.state bus.new)) ≡ served request.now (far_end buffer.old (B.Bus.state bus.old)) }
-    ensures untouched { elim result [ Ok size ↦ Unit {0} | Err refusal ↦ bus.new ≡ bus.old ] }
+    ensures untouched { OnErr result (bus.new ≡ bus.old) }
     ensures whole { OnlyRequests request.now }
 {
     let access = unpack_request(request)?;
-    let Some(front) = buffer.first_chunk_mut::<ROOM>() else {
-        return Err(PacketRefusal::Buffer);
-    };
+    let front = buffer
+        .first_chunk_mut::<ROOM>()
+        .ok_or(PacketRefusal::Buffer)?;
     Ok(reply_to(bus, access, front))
 }
 

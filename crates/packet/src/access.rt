@@ -8,16 +8,18 @@ use crate::refusal::PacketRefusal;
 // The function of a packet, numbered by the byte that stands for it. A reply repeats the function of its request.
 #[derive(Clone, Copy, Debug, PartialEq, Eq)]
 pub enum Function {
+    // a word is read out of a register
     Read = 0x10,
+    // a word is written into a register
     Write = 0x11,
 }
 
-impl Function {
+impl From<Function> for u8 {
+    ghost from_gives = { λ function code. code ≡ function_code function };
+
     // The byte that stands for a function.
-    pub(crate) fn code(self) -> u8
-        ensures value { result ≡ function_code self }
-    {
-        self as u8
+    fn from(function: Function) -> u8 {
+        function as u8
     }
 }
 
@@ -39,7 +41,9 @@ impl TryFrom<u8> for Function {
 // One access to a register: what a request asks the far end to do.
 #[derive(Clone, Copy, Debug, PartialEq, Eq)]
 pub enum Access {
+    // the word of the register at the address is asked for
     Read { address: u16 },
+    // the word goes into the register at the address
     Write { address: u16, word: u16 },
 }
 
@@ -73,12 +77,12 @@ pub enum Denial {
     NoRegister = 2,
 }
 
-impl Denial {
-    // The status of a reply that carries this.
-    pub(crate) fn status(self) -> u8
-        ensures value { result ≡ denial_status self }
-    {
-        self as u8
+impl From<Denial> for u8 {
+    ghost from_gives = { λ denial status. status ≡ denial_status denial };
+
+    // The status of a reply that carries a denial.
+    fn from(denial: Denial) -> u8 {
+        denial as u8
     }
 }
 
@@ -100,7 +104,9 @@ impl TryFrom<u8> for Denial {
 // What the far end answers: a read's word, or that a write is done, or why not. A word cannot answer a write.
 #[derive(Clone, Copy, Debug, PartialEq, Eq)]
 pub enum Reply {
+    // to a read: the word of the register, or why it was not read
     Read(Result<u16, Denial>),
+    // to a write: that it is done, or why not
     Write(Result<(), Denial>),
 }
 

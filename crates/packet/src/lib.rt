@@ -10,8 +10,8 @@ ghost use Rattle.packet.specs.Layout.{buffer_after, reply_packet, request_packet
 ghost use Rattle.packet.specs.Reading.{ReplyStands, RequestStands, reply_of, request_of};
 
 pub use access::{Access, Denial, Function, Reply};
-use parts::Parts;
 pub use parts::ROOM;
+use parts::{NO_DENIAL, Parts};
 pub use refusal::PacketRefusal;
 
 // Requests and replies have a function each, both ways: they differ in what they carry, in what refuses them and in their
@@ -43,13 +43,13 @@ pub fn pack_request(access: Access, buffer: &mut [u8]) -> Result<usize, PacketRe
     match access {
         Access::Read { address } => {
             let arguments = address.to_be_bytes();
-            Parts::new(0, Function::Read, &arguments).write(buffer)
+            Parts::new(NO_DENIAL, Function::Read, &arguments).write(buffer)
         }
         Access::Write { address, word } => {
             let [address_high, address_low] = address.to_be_bytes();
             let [word_high, word_low] = word.to_be_bytes();
             let arguments = [address_high, address_low, word_high, word_low];
-            Parts::new(0, Function::Write, &arguments).write(buffer)
+            Parts::new(NO_DENIAL, Function::Write, &arguments).write(buffer)
         }
     }
 }
@@ -61,11 +61,14 @@ pub fn pack_reply(reply: Reply, buffer: &mut [u8]) -> Result<usize, PacketRefusa
     ensures stands { ReplyStands reply }
 {
     match reply {
-        Reply::Read(Ok(word)) => Parts::new(0, Function::Read, &word.to_be_bytes()).write(buffer),
-        Reply::Read(Err(denial)) => Parts::new(denial.status(), Function::Read, &[]).write(buffer),
-        Reply::Write(Ok(())) => Parts::new(0, Function::Write, &[]).write(buffer),
+        Reply::Read(Ok(word)) => {
+            let bytes = word.to_be_bytes();
+            Parts::new(NO_DENIAL, Function::Read, &bytes).write(buffer)
+        }
+        Reply::Read(Err(denial)) => Parts::new(denial.into(), Function::Read, &[]).write(buffer),
+        Reply::Write(Ok(())) => Parts::new(NO_DENIAL, Function::Write, &[]).write(buffer),
         Reply::Write(Err(denial)) => {
-            Parts::new(denial.status(), Function::Write, &[]).write(buffer)
+            Parts::new(denial.into(), Function::Write, &[]).write(buffer)
         }
     }
 }

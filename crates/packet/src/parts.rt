@@ -1,7 +1,7 @@
 // What a packet says, read out of its bytes and written into them.
-ghost use Rattle.std.specs.Prelude.{◌≡◌, ◌+◌, ◌≤◌, [], length, take};
+ghost use Rattle.std.specs.Prelude.{◌≡◌, ◌+◌, ◌-◌, ◌≤◌, [], length, take};
 ghost use Rattle.crc.specs.Crc.{crc_bytes, crc_of};
-ghost use Rattle.packet.specs.Layout.{buffer_after, content, denial_status, function_code, laid, packet, written};
+ghost use Rattle.packet.specs.Layout.{buffer_after, content, denial_status, function_code, packet, with_checksum, written};
 ghost use Rattle.packet.specs.Reading.{access_of, answer_of, content_of, ends_in_checksum, then};
 ghost use Rattle.packet.specs.Views.{known, opened_content, parts_content};
 
@@ -11,6 +11,9 @@ use crc::checksum;
 
 // The process code, with which every packet starts.
 const PROCESS_CODE: u8 = 0x6E;
+
+// The status of a packet that carries no denial: of a request, and of a reply to an access that was carried out.
+pub(crate) const NO_DENIAL: u8 = 0;
 
 // What a buffer has to hold: the largest packet, a write request.
 pub const ROOM: usize = 14;
@@ -79,10 +82,10 @@ impl<'a> Parts<'a> {
         ensures value { result ≡ access_of (parts_content self.entry) }
     {
         match (self.function, self.status, self.arguments) {
-            (Function::Read, 0, [high, low]) => Ok(Access::Read {
+            (Function::Read, NO_DENIAL, [high, low]) => Ok(Access::Read {
                 address: u16::from_be_bytes([*high, *low]),
             }),
-            (Function::Write, 0, [high, low, word_high, word_low]) => Ok(Access::Write {
+            (Function::Write, NO_DENIAL, [high, low, word_high, word_low]) => Ok(Access::Write {
                 address: u16::from_be_bytes([*high, *low]),
                 word: u16::from_be_bytes([*word_high, *word_low]),
             }),
@@ -98,11 +101,11 @@ impl<'a> Parts<'a> {
             return Err(PacketRefusal::WrongFunction);
         }
         match (function, self.status, self.arguments) {
-            (Function::Read, 0, [high, low]) => {
+            (Function::Read, NO_DENIAL, [high, low]) => {
                 let word = u16::from_be_bytes([*high, *low]);
                 Ok(Reply::Read(Ok(word)))
             }
-            (Function::Write, 0, []) => Ok(Reply::Write(Ok(()))),
+            (Function::Write, NO_DENIAL, []) => Ok(Reply::Write(Ok(()))),
             (_, status, []) => Ok(Reply::denied(function, Denial::try_from(status)?)),
             _ => Err(PacketRefusal::Fields),
         }
@@ -118,7 +121,7 @@ impl<'a> Parts<'a> {
             return Err(PacketRefusal::Buffer);
         }
         let [count_high, count_low] = (self.arguments.len() as u16).to_be_bytes();
-        let function = self.function.code();
+        let function = u8::from(self.function);
         let front = [
             PROCESS_CODE,
             self.status,
@@ -129,29 +132,31 @@ impl<'a> Parts<'a> {
         ];
         let end = 8 + self.arguments.len();
         buffer[..6].copy_from_slice(&front);
-        seal(buffer, 6);
+        seal(&mut buffer[..8]);
         buffer[8..end].copy_from_slice(self.arguments);
-        seal(buffer, end);
+        seal(&mut buffer[..end + 2]);
         Ok(end + 2)
     }
 }
 
-// Whether the last two bytes are the checksum of those before them.
+// Whether the last two bytes are the checksum of those before them. Two bytes at least are required, since by the
+// definition an empty string ends in its checksum, which is 0.
+#[tactic(auto, unfolding(crate::specs::Reading::ends_in_checksum))]
 fn ends_in_checksum(bytes: &[u8]) -> bool
     requires { 2 ≤ length bytes.now }
     ensures value { result ≡ ends_in_checksum bytes.now }
 {
-    match bytes {
-        [front @ .., high, low] => u16::from_be_bytes([*high, *low]) == checksum(front),
-        _ => unreachable!(),
-    }
+    bytes
+        .split_last_chunk::<2>()
+        .is_some_and(|(front, sum)| u16::from_be_bytes(*sum) == checksum(front))
 }
 
-// Writes the checksum of the bytes in front of a place to that place.
-fn seal(buffer: &mut [u8], end: usize)
-    requires { end + 2 ≤ length buffer.old }
-    ensures after { buffer.new ≡ laid buffer.old end (crc_bytes (crc_of (take end buffer.old))) }
+// Writes the checksum of the bytes before the last two into those two.
+#[tactic(auto, using(crate::proofs::Checksums::sent), unfolding(crate::specs::Layout::with_checksum))]
+fn seal(bytes: &mut [u8])
+    requires { 2 ≤ length bytes.old }
+    ensures after { bytes.new ≡ with_checksum (take (length bytes.old - 2) bytes.old) }
 {
-    let sum = checksum(&buffer[..end]);
-    buffer[end..end + 2].copy_from_slice(&sum.to_be_bytes());
+    let (front, sum) = bytes.split_last_chunk_mut::<2>().unwrap();
+    *sum = checksum(front).to_be_bytes();
 }

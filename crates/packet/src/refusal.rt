@@ -9,9 +9,9 @@ pub enum PacketRefusal {
     Length = 31,
     // the first byte is not the process code
     Start = 32,
-    // the checksum of the first six bytes
+    // bytes 6 and 7 are not the checksum of the six before them
     FrontChecksum = 33,
-    // the checksum of everything before it
+    // the last two bytes are not the checksum of all the others
     Checksum = 34,
     // the reserved byte is not 0
     Reserved = 35,

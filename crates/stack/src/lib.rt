@@ -7,11 +7,14 @@ ghost use Rattle.std.specs.Prelude.{◌≡◌};
 use camera::{Bus, Fault};
 use link::PacketLink;
 
-// How many links are laid over a bus: no more than two are a value.
+// How many links are laid over a bus. A number of links above two cannot be written.
 #[derive(Clone, Copy, Debug, PartialEq, Eq)]
 pub enum Links {
+    // the bus is used as it is
     None,
+    // each access crosses one line
     One,
+    // each access crosses two lines, one after the other
     Two,
 }
 
@@ -19,8 +22,11 @@ pub enum Links {
 // bus. A `dyn Bus` would lie on the heap, and could not be taken off again as the bus that it was.
 #[derive(Drop)]
 pub enum Stack<B> {
+    // the bus itself
     Direct(B),
+    // the bus under one link
     Linked(PacketLink<B>),
+    // the bus under a link that lies under another
     Twice(PacketLink<PacketLink<B>>),
 }
 
