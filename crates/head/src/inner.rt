@@ -1,5 +1,4 @@
-// What a head holds: its registers and its table of attributes, as plain memory. The methods stand in table.rt, since a
-// struct with a ghost field may not stand beside contracts that cite definitions on that struct.
+// What a head holds: its registers and its table of attributes, as plain memory.
 ghost use Rattle.std.specs.Prelude.{◌≡◌, ◌<◌, length};
 ghost use Rattle.words.specs.Words.{Words};
 ghost use Rattle.std.specs.Int.Signed.{mag};
@@ -44,6 +43,8 @@ pub(crate) struct Inner {
     pub(crate) table: Table,
     // the table when the user defaults were saved, if they were
     pub(crate) saved: Option<Table>,
+    // The next three say what the types bound: the `possible` of a bus is a statement over the state that the head stands for,
+    // whose numbers have no type.
     ghost code_bits: { mag code < 128 },
     ghost count_bits: { count < 65536 },
     ghost size_bits: { size < 65536 },
@@ -57,7 +58,8 @@ impl Record {
     ghost use Rattle.camera.specs.Registers.{over};
     ghost use Rattle.head.specs.Meaning.{blank};
 
-    // A record of zeros.
+    // A record of zeros. A function and no associated constant: each place that passes a constant on owes its ghost field, and
+    // the six that pass this one were not proved without an answer each, in place of the one answer here.
     pub(crate) fn blank() -> Record
         ensures value { result.words ≡ blank.words }
     {
@@ -133,7 +135,8 @@ impl Inner {
     ghost use Rattle.camera.specs.Execution.{bank};
     ghost use Rattle.head.specs.Meaning.{registers_in};
 
-    // The words of a bank.
+    // The words of a bank, to be read. What writes to one names its array: no method lends a bank to be written, since the
+    // check has no rule yet for an array that a struct with ghost fields lends as a `&mut` slice.
     pub(crate) fn bank(&self, which: Bank) -> &[u16]
         ensures value { result.now ≡ bank (is_data which) (registers_in self.now) }
     {

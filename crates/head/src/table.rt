@@ -30,6 +30,7 @@ impl Head {
     {
         let shown = self.shown(number);
         let words = shown.front(number);
+        // Two arms, since a bank is not lent to be written (`Inner::bank`).
         match Bank::of(number) {
             Bank::Data => lay(&mut self.inner.data, words),
             Bank::Block => lay(&mut self.inner.block, words),
