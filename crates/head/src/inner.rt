@@ -43,8 +43,7 @@ pub(crate) struct Inner {
     pub(crate) table: Table,
     // the table when the user defaults were saved, if they were
     pub(crate) saved: Option<Table>,
-    // The next three say what the types bound: the `possible` of a bus is a statement over the state that the head stands for,
-    // whose numbers have no type.
+    // These three repeat what the types bound: a bus's `possible` is a statement over the state, whose numbers have no type.
     ghost code_bits: { mag code < 128 },
     ghost count_bits: { count < 65536 },
     ghost size_bits: { size < 65536 },
@@ -58,8 +57,8 @@ impl Record {
     ghost use Rattle.camera.specs.Registers.{over};
     ghost use Rattle.head.specs.Meaning.{blank};
 
-    // A record of zeros. A function and no associated constant: each place that passes a constant on owes its ghost field, and
-    // the six that pass this one were not proved without an answer each, in place of the one answer here.
+    // A record of zeros. A function and no associated constant: that was tried, and each place that passes the constant on
+    // owes its ghost field anew, which naming `zeros_below` there did not prove. The function owes it once.
     pub(crate) fn blank() -> Record
         ensures value { result.words ≡ blank.words }
     {
@@ -135,8 +134,9 @@ impl Inner {
     ghost use Rattle.camera.specs.Execution.{bank};
     ghost use Rattle.head.specs.Meaning.{registers_in};
 
-    // The words of a bank, to be read. What writes to one names its array: no method lends a bank to be written, since the
-    // check has no rule yet for an array that a struct with ghost fields lends as a `&mut` slice.
+    // The words of a bank, to be read. What writes to one names its array: a method that lends a bank to be written was
+    // tried, and the clause of such a loan has to give an `Inner` for each list of words that could be left in the bank,
+    // where the ghost fields hold for lists of one length alone.
     pub(crate) fn bank(&self, which: Bank) -> &[u16]
         ensures value { result.now ≡ bank (is_data which) (registers_in self.now) }
     {
