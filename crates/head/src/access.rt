@@ -33,7 +33,7 @@ impl Head {
     }
 
     // The register that an access meets: there is one at the address, and the next mark, which is used up, acknowledges
-    // the access.
+    // the access, or no mark is left, which acknowledges it too.
     #[tactic(auto, unfolding(camera::specs::Steps::read_step, camera::specs::Steps::write_step))]
     fn reach(&mut self, address: u16) -> Result<Register, Fault>
         ensures read { followed read_effect result (head_state self.new) ≡ read_step (head_state self.old) address }
@@ -46,7 +46,8 @@ impl Head {
         }
     }
 
-    // What a register of an idle camera reads.
+    // What a register of an idle camera reads. The last two arms name their arrays, as in `store`: a register of words is of
+    // one bank already, so that `Inner::bank` would have nothing to choose.
     fn held(&self, register: Register) -> u16
         ensures value { result ≡ held register (head_state self.now) }
     {

@@ -25,11 +25,7 @@ impl Head {
         ensures size { length result.now ≡ size_of number }
         ensures bound { length result.now ≤ 512 }
     {
-        let size = size_of(number);
-        match Bank::of(number) {
-            Bank::Data => &self.inner.data[..size],
-            Bank::Block => &self.inner.block[..size],
-        }
+        &self.inner.bank(Bank::of(number))[..size_of(number)]
     }
 
     // Whether the words of a set keep the limits.

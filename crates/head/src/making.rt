@@ -20,7 +20,7 @@ fn start_record(number: u16, serial: u64, fpa: u16) -> Record
     match number {
         SERIAL_NUMBER => {
             let mut serial_words = [0; 4];
-            let _ = serial.put(&mut serial_words);
+            serial.put(&mut serial_words).unwrap();
             blank.with(&serial_words)
         }
         FPA_TEMPERATURE => blank.with(&[fpa]),

@@ -4,7 +4,7 @@ use std::collections::VecDeque;
 
 // A camera head that keeps the camera's state itself. Contracts name that state by `head_state`: it is no `Model` of a
 // head, since a model's value must be data, and the words of a state's attributes are a function from their numbers,
-// which has no code.
+// which has no code. The methods stand in files by subject: access, commands, the table, pictures, questions, making one.
 #[derive(Drop)]
 pub struct Head {
     pub(crate) inner: Inner,

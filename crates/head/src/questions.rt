@@ -8,9 +8,11 @@ ghost use Rattle.std.specs.Prelude.{◌≡◌, IfOk};
 use crate::memory::Head;
 use std::alloc::{AllocError, Global};
 
-// The camera's state as plain values.
+// The camera's state as plain values. It repeats fields of `Inner`, and is no part of it: programs read these fields, and
+// `Inner`, which has the memory and its ghost fields too, is private to the head.
 #[derive(Clone, Copy, Debug, PartialEq, Eq)]
 pub struct HeadReport {
+    // whether it hangs, since a write met it while it booted or was busy: it takes no further write
     pub hung: bool,
     // boot polls left
     pub boot: u16,

@@ -13,11 +13,13 @@ const MOST_COMMANDS: usize = 64;
 // The most acknowledgement marks.
 const MOST_MARKS: usize = 4_096;
 
-// What a head is made from.
+// What a head is made from. It has no `Clone`: a clone of its lists can fail for want of memory, and nothing below the
+// programs copies settings.
 #[derive(Debug, Drop)]
 pub struct HeadSettings {
     // how many status reads come before the camera is up
     pub boot: u16,
+    // the serial number, which attribute 2 holds
     pub serial: u64,
     // the temperature of the sensor array
     pub fpa: u16,
@@ -30,6 +32,7 @@ pub struct HeadSettings {
 // The refusal of settings past the limits, which gives them back.
 #[derive(Debug, Drop)]
 pub struct BadSettings {
+    // the settings that were refused, unchanged
     pub settings: HeadSettings,
 }
 
