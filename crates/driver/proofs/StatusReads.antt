@@ -1,5 +1,6 @@
--- One status read more: how it moves on what is still to be polled.
-use Rattle.std.proofs.Common.{◌≡◌, ℕ, suc, ◌+◌, ◌-◌, ◌<◌, ◌≤◌, Bool, cond, Ok, Err, refl, ap, arith}
+-- A status word's bits, and one status read more: how it moves on what is still to be polled.
+use Rattle.std.proofs.Common.{◌≡◌, ℕ, suc, ◌+◌, ◌-◌, ◌*◌, ◌/◌, ◌%◌, ◌<◌, ◌≤◌, Bool, bit_and, cond, Ok, Err, refl, ap, arith}
+use Rattle.std.proofs.lemmas.Nat.Bits.{and_pow}
 use Rattle.camera.specs.declared.fault.Fault.{Fault}
 use Rattle.camera.specs.declared.register.Register.TheVariants.{Status}
 use Rattle.camera.specs.State.{CameraState}
@@ -8,6 +9,10 @@ use Rattle.calls.specs.declared.refusal.Refusal.{Refusal}
 use Rattle.calls.specs.declared.refusal.Refusal.TheVariants.{Bus, StillBusy}
 use Rattle.calls.specs.Accesses.{camera, register_read}
 use Rattle.calls.specs.Outcomes.{by_answer, polled}
+
+-- Bit 2, as the code takes it out.
+pub booted_bit : (status : ℕ) → bit_and status 4 ≡ status / 4 % 2 * 4
+booted_bit status = and_pow status 2
 
 -- what a status read leads to, with so many left after it
 abbrev pub from_there : (ℕ → Bool) → ℕ → Outcome CameraState ℕ Fault → Outcome CameraState ℕ Refusal

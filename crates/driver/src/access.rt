@@ -29,7 +29,8 @@ impl Existing {
         register: Register::Length,
     };
 
-    // The register of a word that passes through a bank.
+    // The register of a word that passes through a bank. Its place is below the bank's size, as the number of words is at most
+    // that in the two loops of transfer.rt that call this; a type of places would be made and taken apart at each word.
     pub(crate) fn in_bank(bank: Bank, place: u16) -> Existing
         requires { place < bank_size (is_data bank) }
         ensures value { result.register ≡ place_register (is_data bank) place }
@@ -41,7 +42,8 @@ impl Existing {
         Existing { register }
     }
 
-    // Its address.
+    // Its address: the way back of the camera's `decode`, with the same first addresses. It stands here and not beside `decode`:
+    // it goes back only from a register that exists, which this struct carries and a public function would have to require.
     fn address(self) -> u16
         ensures value { result ≡ address_of self.register }
     {

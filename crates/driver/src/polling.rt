@@ -19,18 +19,25 @@ pub enum Awaited {
     Free,
 }
 
-// Whether a status word says that the camera is not busy: bit 0 is 0.
+// The bit of a status word that says that the camera is busy.
+const BUSY: u16 = 1 << 0;
+
+// The bit that says that it has booted.
+const BOOTED: u16 = 1 << 2;
+
+// Whether a status word says that the camera is not busy.
 fn is_free(status: u16) -> bool
     ensures value { result ≡ is_free status }
 {
-    status % 2 == 0
+    status & BUSY == 0
 }
 
-// Whether it says that the camera has booted too: bit 2 is 1.
+// Whether it says that the camera has booted too.
+#[tactic(auto, using(crate::proofs::StatusReads::booted_bit))]
 fn is_up(status: u16) -> bool
     ensures value { result ≡ is_up status }
 {
-    status / 4 % 2 == 1 && is_free(status)
+    status & BOOTED != 0 && is_free(status)
 }
 
 impl Awaited {

@@ -16,7 +16,8 @@ use words::response_code;
 // The most status reads of a budget.
 const MOST_READS: u16 = 1000;
 
-// What is tested of each budget: it is 1 to 1,000 status reads.
+// What is tested of each budget: it is 1 to 1,000 status reads. No type carries that it was tested: nothing after the test
+// asks it of a caller, and `poll`, the one place that uses a budget, takes any number of reads.
 pub(crate) fn check_budget(budget: u16) -> Result<(), Refusal>
     ensures value { result ≡ judged ((is_budget budget, BadBudget) ∷ []) tt }
 {
@@ -44,25 +45,23 @@ fn has_room(command: Command, buffer: &[u16]) -> bool
     }
 }
 
-impl Parked {
-    // What is tested before a parked command goes on: the buffer's size, and the budget.
-    fn check(&self, buffer: &[u16], budget: u16) -> Result<(), Refusal>
-        ensures value { result ≡ judged ((has_room self.now.command.kind self.now.command.number buffer.now, WrongSize) ∷ (is_budget budget, BadBudget) ∷ []) tt }
-    {
-        if !has_room(self.command, buffer) {
-            return Err(Refusal::WrongSize);
-        }
-        check_budget(budget)
+// What is tested before a parked command goes on: the buffer's size, and the budget.
+fn check(command: Command, buffer: &[u16], budget: u16) -> Result<(), Refusal>
+    ensures value { result ≡ judged ((has_room command.kind command.number buffer.now, WrongSize) ∷ (is_budget budget, BadBudget) ∷ []) tt }
+{
+    if !has_room(command, buffer) {
+        return Err(Refusal::WrongSize);
     }
+    check_budget(budget)
+}
 
+impl Parked {
     // The parked command goes on from the stage that it has reached, unless the buffer or the budget is refused.
     pub(crate) fn resumed<B: Bus>(self, bus: &mut B, buffer: &mut [u16], budget: u16) -> Step
         ensures outcome { left_by result buffer.new (B.Bus.state bus.new) ≡ outcome camera (parked self.command self.stage) (resume buffer.old budget) (B.Bus.state bus.old) }
     {
-        if let Err(refusal) = self.check(buffer, budget) {
-            return Err((Session::Parked(self), refusal));
-        }
         let Parked { command, stage } = self;
+        check(command, buffer, budget).map_err(|refusal| parked(command, stage, refusal))?;
         if let Stage::Waiting = stage {
             let polled = poll(bus, Awaited::Free, budget);
             let status = polled.map_err(|refusal| parked(command, Stage::Waiting, refusal))?;

@@ -9,6 +9,7 @@ ghost use Rattle.std.specs.Prelude.{◌≡◌, []};
 use crate::collecting::check_budget;
 use crate::orders::Order;
 use crate::states::{Asleep, Ready, Session, Step};
+use crate::steps::settled;
 use calls::Refusal;
 use camera::Bus;
 use driver::{Awaited, check_command, poll};
@@ -21,6 +22,14 @@ fn check(order: Order<'_>, buffer: &[u16], budget: u16) -> Result<(), Refusal>
     let command = order.command();
     check_command(command, order.brought(buffer), command.size())?;
     check_budget(budget)
+}
+
+// A refusal that leaves the session asleep.
+fn asleep(refusal: Refusal) -> (Session, Refusal)
+    ensures state { as_session result.0 ≡ asleep }
+    ensures refusal { result.1 ≡ refusal }
+{
+    (Session::Asleep(Asleep), refusal)
 }
 
 // A session is asleep where none is given.
@@ -45,16 +54,9 @@ impl Session {
         ensures answer { result ≡ answer_of step }
         ensures state { as_session self.new ≡ session_after step }
     {
-        match step {
-            Ok(state) => {
-                *self = Session::Ready(state);
-                Ok(())
-            }
-            Err((session, refusal)) => {
-                *self = session;
-                Err(refusal)
-            }
-        }
+        let (session, answer) = settled(step);
+        *self = session;
+        answer
     }
 
     // The tests of an order let the ready session through.
@@ -65,24 +67,23 @@ impl Session {
         match self {
             Session::Asleep(_) => Err((self, Refusal::Asleep)),
             Session::Parked(_) => Err((self, Refusal::CommandParked)),
-            Session::Ready(state) => match check(order, buffer, budget) {
-                Ok(()) => Ok(state),
-                Err(refusal) => Err((Session::Ready(state), refusal)),
-            },
+            Session::Ready(state) => {
+                check(order, buffer, budget).map_err(|refusal| (Session::Ready(Ready), refusal))?;
+                Ok(state)
+            }
         }
     }
 
-    // A wake, with the session handed on.
+    // A wake, with the session handed on. It is no chain by `and_then`, whose closure would poll: tried with a clause and without
+    // one, the bus moves into that closure, and the proof learns nothing of the state in which the camera is left.
     fn woken<B: Bus>(self, bus: &mut B, budget: u16) -> Step
         ensures outcome { left_by result [] (B.Bus.state bus.new) ≡ outcome camera (as_session self) (wake budget) (B.Bus.state bus.old) }
     {
-        let Session::Asleep(state) = self else {
+        let Session::Asleep(_) = self else {
             return Err((self, Refusal::Awake));
         };
-        if let Err(refusal) = check_budget(budget) {
-            return Err((Session::Asleep(state), refusal));
-        }
-        poll(bus, Awaited::Up, budget).map_err(|refusal| (Session::Asleep(state), refusal))?;
+        check_budget(budget).map_err(asleep)?;
+        poll(bus, Awaited::Up, budget).map_err(asleep)?;
         Ok(Ready)
     }
 

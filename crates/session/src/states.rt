@@ -3,15 +3,15 @@ use calls::{Refusal, Stage};
 use camera::Command;
 
 // Nothing is known of the camera yet.
-#[derive(Drop)]
+#[derive(Debug, Drop)]
 pub struct Asleep;
 
 // The camera was seen idle, and no command is under way.
-#[derive(Drop)]
+#[derive(Debug, Drop)]
 pub struct Ready;
 
 // The answer of a command that the camera has taken is owed.
-#[derive(Drop)]
+#[derive(Debug, Drop)]
 pub struct Parked {
     pub(crate) command: Command,
     pub(crate) stage: Stage,
@@ -19,15 +19,19 @@ pub struct Parked {
 
 // A command whose word was acknowledged and whose answer is owed to the holder. It is spent by collecting the answer or by
 // parking it in a session; it cannot be let go.
+#[derive(Debug)]
 pub struct InFlight {
     pub(crate) command: Command,
 }
 
-// A session in any of its states.
-#[derive(Drop)]
+// A session in any of its states. Contracts see it by `as_session` of specs/Views.antt, since an enum can have no Model.
+#[derive(Debug, Drop)]
 pub enum Session {
+    // asleep: it is still to be woken
     Asleep(Asleep),
+    // awake, with nothing under way: it can begin a command
     Ready(Ready),
+    // it keeps a command whose answer is still to be collected
     Parked(Parked),
 }
 

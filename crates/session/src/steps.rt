@@ -7,7 +7,7 @@ ghost use Rattle.calls.specs.declared.stage.Stage.TheVariants.{Waiting};
 ghost use Rattle.camera.specs.Commands.{command};
 ghost use Rattle.camera.specs.Steps.{ended};
 ghost use Rattle.camera.specs.declared.attribute.Kind.TheVariants.{Get, Set, Run};
-ghost use Rattle.session.specs.Views.{TokenOf, as_begun, as_session, command_in, in_flight, left, left_by, words_in};
+ghost use Rattle.session.specs.Views.{TokenOf, answer_of, as_begun, as_session, command_in, in_flight, left, left_by, session_after, words_in};
 ghost use Rattle.std.specs.Prelude.{◌≡◌, []};
 
 use crate::orders::Order;
@@ -15,6 +15,17 @@ use crate::states::{InFlight, Parked, Ready, Session, Step};
 use calls::{Refusal, Stage};
 use camera::Bus;
 use driver::send;
+
+// What a step answers, and the session that it hands on.
+pub(crate) fn settled(step: Step) -> (Session, Result<(), Refusal>)
+    ensures session { as_session result.0 ≡ session_after step }
+    ensures answer { result.1 ≡ answer_of step }
+{
+    match step {
+        Ok(state) => (Session::Ready(state), Ok(())),
+        Err((session, refusal)) => (session, Err(refusal)),
+    }
+}
 
 impl Ready {
     // Sends a command up to its command word. Refused, the session is ready still.
@@ -74,14 +85,14 @@ impl InFlight {
         }
     }
 
-    // Keeps the command in a session, whose resume collects the answer.
+    // Keeps the command in a session: parked, its answer still to be collected.
     pub fn park(self) -> Session
         ensures state { as_session result ≡ in_flight self }
     {
         Session::Parked(self.waiting())
     }
 
-    // Collects the answer, as a resume of the parked command would.
+    // Collects the answer: the rest of the command, which is what docs/CALLS.md defines for a command that is parked and waits.
     pub fn collect<B: Bus>(
         self,
         bus: &mut B,
@@ -90,9 +101,6 @@ impl InFlight {
     ) -> (Session, Result<(), Refusal>)
         ensures outcome { left result buffer.new (B.Bus.state bus.new) ≡ outcome camera (in_flight self) (resume buffer.old budget) (B.Bus.state bus.old) }
     {
-        match self.waiting().resumed(bus, buffer, budget) {
-            Ok(state) => (Session::Ready(state), Ok(())),
-            Err((session, refusal)) => (session, Err(refusal)),
-        }
+        settled(self.waiting().resumed(bus, buffer, budget))
     }
 }
