@@ -1,10 +1,9 @@
 // The head's table of attributes: one record is looked at or changed, all are saved and restored.
-ghost use Rattle.std.specs.Prelude.{◌≡◌, ◌<◌, ◌≤◌, length, take, slice_index_or};
+ghost use Rattle.std.specs.Prelude.{◌≡◌, take};
 ghost use Rattle.camera.specs.Attributes.{size_of};
-ghost use Rattle.camera.specs.Execution.{get_done, only_saved, put_back, restore_done, save_done, set_done, with_one};
-ghost use Rattle.camera.specs.Registers.{over};
+ghost use Rattle.camera.specs.Execution.{get_done, restore_done, save_done, set_done};
 ghost use Rattle.camera.specs.State.{saved_flag, shown};
-ghost use Rattle.head.specs.Meaning.{after_restore, blank, head_state, words_in};
+ghost use Rattle.head.specs.Meaning.{head_state};
 
 use crate::inner::Record;
 use crate::memory::Head;
