@@ -3,4 +3,3 @@ pub mod Contents
 pub mod Meanings
 pub mod Standing
 pub mod Laying
-pub mod Known

@@ -1,5 +1,5 @@
 // What a packet says, read out of its bytes and written into them.
-ghost use Rattle.std.specs.Prelude.{◌≡◌, ◌+◌, ◌-◌, ◌≤◌, [], length, take};
+ghost use Rattle.std.specs.Prelude.{◌≡◌, ◌+◌, ◌-◌, ◌≤◌, [], IfOk, Ok, length, take};
 ghost use Rattle.crc.specs.Crc.{crc_bytes, crc_of};
 ghost use Rattle.packet.specs.Layout.{buffer_after, content, denial_status, function_code, packet, with_checksum, written};
 ghost use Rattle.packet.specs.Reading.{access_of, answer_of, content_of, ends_in_checksum, then};
@@ -41,6 +41,7 @@ impl<'a> Parts<'a> {
     // Takes a packet apart, or refuses it by the first of its tests that fails; the last is that its function is known.
     pub(crate) fn open(packet: &'a [u8]) -> Result<Parts<'a>, PacketRefusal>
         ensures value { opened_content result ≡ then (content_of packet.now) known }
+        ensures content { IfOk result (λ parts. content_of packet.now ≡ Ok (parts_content parts)) }
     {
         let [
             start,
