@@ -81,7 +81,7 @@ impl Station {
         }
     }
 
-    // Makes a head from the settings, which stay for later heads. They are copied field by field: a `Clone` of
+    // Makes a head from the settings, which stay for later heads. The two lists are cloned here: a `Clone` of
     // `HeadSettings` would be a public function below the programs that can fail for want of memory.
     fn make(&mut self, rt: &HostRuntime) -> Result<(), ScriptError> {
         let settings = HeadSettings {

@@ -119,7 +119,7 @@ const GET_SET_RUN: Kinds = Kinds {
     runs: true,
 };
 
-// The table of attributes. An attribute's number is its place.
+// The table of attributes. An attribute's number is its place. A constant table is the project's form, as of the directory.
 const ATTRIBUTES: [Attribute; 20] = [
     Attribute {
         name: Name::GainControl,

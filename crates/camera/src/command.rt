@@ -27,7 +27,8 @@ const PROTECTED_MODULE: u16 = 8;
 // The protection bit, as it stands above the module.
 const PROTECTION_BIT: u16 = 4;
 
-// A command: its kind, and the number of the attribute.
+// A command: its kind, and the number of the attribute. Any number of sixteen bits may be asked for, and one that no attribute
+// has is answered by a rule: an enum of attributes would ask more of callers.
 #[derive(Clone, Copy, Debug, PartialEq, Eq)]
 pub struct Command {
     pub kind: Kind,

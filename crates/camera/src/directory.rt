@@ -7,7 +7,7 @@ const NO_ATTRIBUTE: u8 = 255;
 
 // The attribute at 64 times the module plus the command. The table is made from the bases of the attributes, and its
 // proof computes every entry again from that rule. Its form is the project's: a byte for each of 1,024 places, and 255
-// where no attribute is.
+// where no attribute is. A constant of this language calls no function that would compute it.
 const DIRECTORY: [u8; 1024] = [
     255, 255, 255, 255, 255, 255, 255, 255, 255, 255, 255, 255, 255, 255, 255, 255, 255, 255, 255,
     255, 255, 255, 255, 255, 255, 255, 255, 255, 255, 255, 255, 255, 255, 255, 255, 255, 255, 255,

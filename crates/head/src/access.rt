@@ -79,7 +79,7 @@ impl Head {
         }
     }
 
-    // What a write to a register of an idle camera does.
+    // What a write to a register of an idle camera does. Its last two arms name their arrays for the reason that `held` gives.
     #[tactic(auto, unfolding(camera::specs::Execution::commanded))]
     fn store(&mut self, register: Register, word: u16)
         ensures after { head_state self.new ≡ stored register word (head_state self.old) }

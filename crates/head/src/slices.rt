@@ -6,7 +6,7 @@ ghost use Rattle.camera.specs.Registers.{over};
 pub(crate) fn put<T: Copy>(items: &mut [T], place: usize, item: T)
     ensures after { items.new ≡ slice_set items.old place item }
 {
-    // A slice's `get_mut` promises nothing of what the slice holds afterwards.
+    // `get_mut` was tried: it promises nothing of what the slice holds afterwards.
     if place < items.len() {
         items[place] = item;
     }

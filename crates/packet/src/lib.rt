@@ -33,7 +33,8 @@ pub fn unpack_reply(function: Function, packet: &[u8]) -> Result<Reply, PacketRe
     parts.reply(function)
 }
 
-// Writes the packet of a request to the front of a buffer of at least 14 bytes, and says how many bytes it has.
+// Writes the packet of a request to the front of a buffer of at least 14 bytes, and says how many bytes it has. The buffer is
+// the caller's, here and in the link: no packet lies on the heap, so what is answered is a number of bytes and no vector.
 #[tactic(auto, using(crate::proofs::Checksums::sent))]
 pub fn pack_request(access: Access, buffer: &mut [u8]) -> Result<usize, PacketRefusal>
     ensures answer { result ≡ written (request_packet access) buffer.old }
