@@ -15,6 +15,7 @@ use Rattle.camera.specs.Attributes.{start_words, within}
 use Rattle.camera.specs.Commands.{command, word_of}
 use Rattle.camera.specs.State.{CameraState}
 use Rattle.camera.specs.Steps.{read_step, write_step}
+use Rattle.cases.specs.Sequences.{SequencesHold}
 
 -- what a definition gives: a word or none, words, bytes, a refusal's number, a response code, or yes or no
 pub data Answer : Type 0 where
@@ -86,6 +87,7 @@ worked_cases =
     ∷ case (allowed (within FocusRegion (1 ∷ 1 ∷ 79 ∷ 58 ∷ []))) (allowed false)
     ∷ []
 
--- Every case comes out as expected.
-abbrev pub CasesHold : Type 0
-CasesHold = map (λ (c : Case). c.given) worked_cases ≡ map (λ (c : Case). c.expected) worked_cases
+-- Every case comes out as expected, and every worked call sequence.
+pub record CasesHold : Type 0 where
+  pub cases : map (λ (c : Case). c.given) worked_cases ≡ map (λ (c : Case). c.expected) worked_cases
+  pub sequences : SequencesHold

@@ -4,7 +4,7 @@
 
 ghost use Rattle.cases.specs.Cases.{CasesHold};
 
-// A law, with nothing to run: every worked case comes out as expected.
+// A law, with nothing to run: every worked case and every worked call sequence comes out as expected.
 pub fn worked_cases_hold()
     ensures hold { CasesHold }
 {}

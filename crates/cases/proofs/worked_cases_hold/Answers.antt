@@ -7,8 +7,23 @@ use Rattle.camera.specs.Attributes.{attribute_at}
 use Rattle.camera.specs.Commands.{attribute_in}
 use Rattle.camera.specs.Execution.{commanded}
 use Rattle.camera.specs.Steps.{read_step, write_step}
+use Rattle.cases.proofs.Sequences.{small, colours_behind, colours_in_front, colours_put_after_a_save, colours_read_again}
 use Rattle.cases.proofs.worked_cases_hold.Goals as goal
 
 pub returns : goal.returns
 unfolding crc_from feed shift shift_bit packet with_checksum ends_in_checksum attribute_at attribute_in commanded read_step write_step
-returns c = record { hold = refl }
+returns c =
+    record {
+      hold =
+          record {
+            cases = refl;
+            sequences =
+                record {
+                  small = small;
+                  colours_behind = colours_behind;
+                  colours_in_front = colours_in_front;
+                  colours_put_after_a_save = colours_put_after_a_save;
+                  colours_read_again = colours_read_again;
+                };
+          };
+    }
