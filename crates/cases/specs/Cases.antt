@@ -7,15 +7,19 @@ use Rattle.packet.specs.declared.PacketRefusal.{PacketRefusal}
 use Rattle.packet.specs.Layout.{refusal_number, request_packet}
 use Rattle.packet.specs.Reading.{request_of}
 use Rattle.words.specs.Words.{number_words, signed_words}
-use Rattle.camera.specs.declared.attribute.Kind.TheVariants.{Set}
+use Rattle.camera.specs.declared.attribute.Kind.TheVariants.{Get, Set}
 use Rattle.camera.specs.declared.attribute.Limits.TheVariants.{FocusRegion}
 use Rattle.camera.specs.declared.fault.Fault.{Fault}
 use Rattle.camera.specs.Registers.{fault_number}
 use Rattle.camera.specs.Attributes.{start_words, within}
 use Rattle.camera.specs.Commands.{command, word_of}
 use Rattle.camera.specs.State.{CameraState}
-use Rattle.camera.specs.Steps.{read_step, write_step}
-use Rattle.cases.specs.Sequences.{SequencesHold}
+use Rattle.camera.specs.Steps.{Outcome, read_step, write_step}
+use Rattle.calls.specs.declared.refusal.Refusal.{Refusal}
+use Rattle.calls.specs.Accesses.{camera}
+use Rattle.calls.specs.Beginning.{begun}
+use Rattle.calls.specs.Refusals.{number_of}
+use Rattle.cases.specs.Sequences.{SequencesHold, fresh, missing_after}
 
 -- what a definition gives: a word or none, words, bytes, a refusal's number, a response code, or yes or no
 pub data Answer : Type 0 where
@@ -41,6 +45,10 @@ read_word (Err fault) = refused (fault_number fault)
 abbrev pub found_word : Option ℕ → Answer
 found_word None = no_word
 found_word (Some w) = word w
+
+-- how beginning a command fares, taken singly: how many commands the camera has taken then, or a refusal's number
+abbrev pub begin_count : Outcome CameraState (Unit {0}) Refusal → Answer
+begin_count o = elim o.answer [ Ok _ ↦ word o.after.interpreter.count | Err refusal ↦ refused (number_of refusal) ]
 
 -- an idle camera with its start words, whose last command got a code
 abbrev pub idle_after : ℤ → CameraState
@@ -85,6 +93,12 @@ worked_cases =
     ∷ case (allowed (within FocusRegion (1 ∷ 1 ∷ 3 ∷ 3 ∷ []))) (allowed true)
     ∷ case (allowed (within FocusRegion (1 ∷ 1 ∷ 2 ∷ 3 ∷ []))) (allowed false)
     ∷ case (allowed (within FocusRegion (1 ∷ 1 ∷ 79 ∷ 58 ∷ []))) (allowed false)
+    -- beginning a get of the frame average, which has none; a set of the focus threshold with one word; with its two words,
+    -- of which the second is not acknowledged; and with both, taken as the camera's first command
+    ∷ case (begin_count (begun camera (command Get 6) [] (fresh [] []))) (refused 5)
+    ∷ case (begin_count (begun camera (command Set 12) (7 ∷ []) (fresh [] []))) (refused 6)
+    ∷ case (begin_count (begun camera (command Set 12) (7 ∷ 0 ∷ []) (fresh [] (missing_after 1)))) (refused 8)
+    ∷ case (begin_count (begun camera (command Set 12) (7 ∷ 0 ∷ []) (fresh [] []))) (word 1)
     ∷ []
 
 -- Every case comes out as expected, and every worked call sequence.

@@ -1,11 +1,11 @@
 -- Worked call sequences: what the definitions say of whole sequences of calls, beside what docs/CALLS.md, docs/CAMERA.md
 -- and docs/LAWS.md make of them by hand.
-use Rattle.std.specs.Prelude.{◌≡◌, ℕ, zero, suc, ◌+◌, Bool, true, false, cond, List, [], ◌∷◌, ◌++◌, map, take, drop, replicate, ℤ, pos, negsuc, Some, None, Ok, Err, Option, Result, ◌==◌}
+use Rattle.std.specs.Prelude.{◌≡◌, ℕ, zero, suc, ◌+◌, ◌<◌, Bool, true, false, cond, List, [], ◌∷◌, ◌++◌, map, take, drop, replicate, ℤ, pos, negsuc, Some, None, Ok, Err, Option, Result, ◌==◌}
 use Rattle.camera.specs.declared.attribute.Kind.TheVariants.{Get, Set}
 use Rattle.camera.specs.Attributes.{start_words}
 use Rattle.camera.specs.Commands.{command}
 use Rattle.camera.specs.Execution.{only_saved}
-use Rattle.camera.specs.State.{CameraState, Words, with_boot, with_interpreter, with_saved, hanging}
+use Rattle.camera.specs.State.{CameraState, Possible, Words, with_boot, with_interpreter, with_saved, hanging}
 use Rattle.calls.specs.declared.refusal.Refusal.{Refusal}
 use Rattle.calls.specs.declared.stage.Stage.TheVariants.{Waiting, Reading}
 use Rattle.calls.specs.Refusals.{number_of, address_in, code_in}
@@ -495,8 +495,17 @@ pub record ComeOut (sequences : List WorkedSequence) : Type 0 where
   pub at_once : map (λ (w : WorkedSequence). come_out w (sequence (calls_of w) w.start)) sequences ≡ sequences
   pub in_parts : map (λ (w : WorkedSequence). come_out w (in_two (calls_of w) w.start)) sequences ≡ sequences
 
+-- The cameras that the sequences start from, but for the one that hangs, are ones that a camera can be: the laws speak of
+-- them.
+pub record StartsArePossible : Type 0 where
+  pub at_rest : (coming : List ℕ) (marks : List Bool) → Possible (fresh coming marks)
+  pub boots : (polls : ℕ) (coming : List ℕ) (marks : List Bool) → Possible (with_boot polls (fresh coming marks))
+  pub counts : (count : ℕ) (coming : List ℕ) (marks : List Bool) → count < 65536 → Possible (counted_to count (fresh coming marks))
+  pub has_saved : Possible saved_before.start
+
 -- Every worked sequence comes out as expected. Those with a whole colour table stand alone, since each takes its time.
 pub record SequencesHold : Type 0 where
+  pub starts : StartsArePossible
   pub small : ComeOut worked_sequences
   pub colours_behind : ComeOut (exchanged threshold_set colours_set ∷ [])
   pub colours_in_front : ComeOut (exchanged colours_set threshold_set ∷ [])
