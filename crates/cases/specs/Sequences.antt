@@ -116,17 +116,19 @@ colours zero = []
 colours (suc n) = n ∷ (1000 + n) ∷ colours n
 
 -- 1, 4 and 7. A session that is asleep refuses all but a wake, whatever else is wrong with the call; a resume has nothing
--- parked. A budget is 1 to 1,000. 2: once awake, it refuses a wake, with a bad budget too. None of this touches the camera.
+-- parked. A budget is 1 to 1,000. None of this touches the camera: the mark says that its first access is not acknowledged, and
+-- that is the read of status by the first wake with a good budget (8). 2: once awake, it refuses a wake, with a bad budget too.
 abbrev pub refused_asleep : WorkedSequence
 refused_asleep =
-    worked (fresh [] [])
+    worked (fresh [] (missing_after 0))
     (step (get 12 (5 ∷ 5 ∷ []) 1) (refused_with 1 (5 ∷ 5 ∷ []))
     ∷ step (set 12 [] 0) (refused_with 1 [])
     ∷ step (run 20 0) (refused_with 1 [])
     ∷ step (resume (5 ∷ []) 0) (refused_with 4 (5 ∷ []))
     ∷ step (wake 0) (refused_with 7 [])
     ∷ step (wake 1001) (refused_with 7 [])
-    ∷ step (wake 1000) (carried [])
+    ∷ step (wake 1000) (unacknowledged_at 0x0002 [])
+    ∷ step (wake 1) (carried [])
     ∷ step (wake 0) (refused_with 2 [])
     ∷ [])
     (unhung ready 0 0 (entry 12 (30 ∷ 0 ∷ []) ∷ []))
