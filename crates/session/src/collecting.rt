@@ -67,13 +67,13 @@ impl Parked {
             let status = polled.map_err(|refusal| parked(command, Stage::Waiting, refusal))?;
             let code = response_code(status);
             if code != 0 {
-                return Err((Session::Ready(Ready), Refusal::Camera(code)));
+                return Err((Session::Ready(Ready::new()), Refusal::Camera(code)));
             }
         }
         if let Kind::Get = command.kind {
             let fetched = fetch(bus, command.number, buffer);
             fetched.map_err(|refusal| parked(command, Stage::Reading, refusal))?;
         }
-        Ok(Ready)
+        Ok(Ready::new())
     }
 }

@@ -68,7 +68,10 @@ impl Session {
             Session::Asleep(_) => Err((self, Refusal::Asleep)),
             Session::Parked(_) => Err((self, Refusal::CommandParked)),
             Session::Ready(state) => {
-                check(order, buffer, budget).map_err(|refusal| (Session::Ready(Ready), refusal))?;
+                check(order, buffer, budget).map_err(|refusal| (
+                    Session::Ready(Ready::new()),
+                    refusal,
+                ))?;
                 Ok(state)
             }
         }
@@ -84,7 +87,7 @@ impl Session {
         };
         check_budget(budget).map_err(asleep)?;
         poll(bus, Awaited::Up, budget).map_err(asleep)?;
-        Ok(Ready)
+        Ok(Ready::new())
     }
 
     // A whole command, with the session handed on: tested, begun and collected.

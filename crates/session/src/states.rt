@@ -6,9 +6,17 @@ use camera::Command;
 #[derive(Debug, Drop)]
 pub struct Asleep;
 
-// The camera was seen idle, and no command is under way.
+// The camera was seen idle, and no command is under way. Its field is private, so that no caller makes one: it comes out of a
+// session that was woken, and beginning a command uses it up.
 #[derive(Debug, Drop)]
-pub struct Ready;
+pub struct Ready(());
+
+impl Ready {
+    // The session is ready: what was begun has ended, or the camera was seen idle.
+    pub(crate) fn new() -> Ready {
+        Ready(())
+    }
+}
 
 // The answer of a command that the camera has taken is owed.
 #[derive(Debug, Drop)]
