@@ -51,9 +51,9 @@ answered_as address (Err refusal) = Err refusal
 abbrev pub answered : Access → List ℕ → Result (Result Answer Fault) PacketRefusal
 answered access bytes = answered_as (address_of access) (reply_read access bytes)
 
--- Over the line an access is what it is on the bus below: its request makes the far end carry it out, which leaves the camera as
--- one such access does, and the reply
--- answers at the near end what the access answered there, a fault with its number and its address.
+-- Over the line an access is what it is on the bus below: its request makes the far end carry it out, which leaves the
+-- camera as one such access does, and the reply answers at the near end what the access answered there, a fault with its
+-- number and its address.
 pub record Crosses (access : Access) (s : CameraState) (buffer : List ℕ) : Type 0 where
   pub out : served (request_packet access) (far_end buffer s) ≡ reply_to access (carried access s) buffer
   pub back : answered access (reply_packet (reply_for (function_of access) (carried access s).answer)) ≡ Ok (carried access s).answer
