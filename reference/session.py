@@ -190,6 +190,8 @@ class Session:
         """Sends a command on a ready session. It owes its answer once the camera has taken it."""
         if self.state() != State.READY:
             raise ValueError("only a ready session begins a command")
+        if words and kind != Type.SET:
+            raise ValueError("only a set has words")
         attribute = offered(kind, number)
         if kind == Type.SET:
             require_size(attribute, words)
