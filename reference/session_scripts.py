@@ -348,7 +348,7 @@ def places(random: Random, count: int) -> list[int]:
     """All places of a short list; of a long one the ends and some."""
     if count <= 30:
         return [*range(count)]
-    return sorted({0, 1, 2, 3, 16, *range(count - 4, count), *random.sample(range(count), 3)})
+    return sorted({0, 1, 16, *range(count - 4, count), *random.sample(range(count), 2)})
 
 
 def missing_marks(talk: SessionTalk, turn: int, attribute: Attribute, kind: Type) -> None:
@@ -380,6 +380,7 @@ def unacknowledged(talk: SessionTalk, turn: int) -> None:
 
 def unacknowledged_block(talk: SessionTalk, turn: int) -> None:
     """Marks that are missing at places of a get or a set of the colour table."""
+    talk.links(0)
     missing_marks(talk, turn, ATTRIBUTES[COLOUR_TABLE], taken([Type.GET, Type.SET], turn))
 
 
@@ -429,14 +430,23 @@ def sets_and_gets(talk: SessionTalk, turn: int) -> None:
     talk.look_at_all()
 
 
+def run_somehow(talk: SessionTalk, number: int) -> None:
+    """Runs what an attribute stands for, whole or in steps."""
+    if talk.is_ready() and talk.random.random() < 0.3:
+        if talk.begin(Type.RUN, number):
+            talk.collect(talk.random.choice([0, 1]), 50)
+    else:
+        talk.call_run(number, 50)
+
+
 def save(talk: SessionTalk) -> None:
     """Runs the user defaults."""
-    talk.call_run(USER_DEFAULTS, 50)
+    run_somehow(talk, USER_DEFAULTS)
 
 
 def restore(talk: SessionTalk) -> None:
     """Runs restore."""
-    talk.call_run(RESTORE, 50)
+    run_somehow(talk, RESTORE)
 
 
 def change(talk: SessionTalk) -> None:
