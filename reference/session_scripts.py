@@ -351,7 +351,7 @@ def places(random: Random, count: int) -> list[int]:
     return sorted({0, 1, 16, *range(count - 4, count), *random.sample(range(count), 2)})
 
 
-def missing_marks(talk: SessionTalk, turn: int, attribute: Attribute, kind: Type) -> None:
+def missing_marks(talk: SessionTalk, attribute: Attribute, kind: Type) -> None:
     """A command of which each access in turn is not acknowledged, on a camera that is busy for some polls."""
     random = talk.random
     polls = random.choice([0, 1, 2])
@@ -374,14 +374,15 @@ def missing_marks(talk: SessionTalk, turn: int, attribute: Attribute, kind: Type
 
 
 def unacknowledged(talk: SessionTalk, turn: int) -> None:
-    """Acknowledgement marks that are missing at every place of a command."""
-    missing_marks(talk, turn, *taken(SHORT, turn))
+    """Acknowledgement marks that are missing at every place of a get, a set and a run."""
+    for kind in Type:
+        missing_marks(talk, taken([attribute for attribute, other in SHORT if other == kind], turn), kind)
 
 
 def unacknowledged_block(talk: SessionTalk, turn: int) -> None:
     """Marks that are missing at places of a get or a set of the colour table."""
     talk.links(0)
-    missing_marks(talk, turn, ATTRIBUTES[COLOUR_TABLE], taken([Type.GET, Type.SET], turn))
+    missing_marks(talk, ATTRIBUTES[COLOUR_TABLE], taken([Type.GET, Type.SET], turn))
 
 
 def unacknowledged_wake(talk: SessionTalk, turn: int) -> None:
@@ -775,7 +776,8 @@ def bring_to(talk: SessionTalk, place: Place) -> None:
     """Brings the session to where an error is to stand, with a new head where it is not there."""
     if place.in_flight:
         keep_ready(talk)
-        talk.begin(*talk.random.choice([(Type.GET, 17, []), (Type.SET, 17, [1, 0]), (Type.RUN, 6, [])]))
+        while not talk.begin(*talk.random.choice([(Type.GET, 17, []), (Type.SET, 17, [1, 0]), (Type.RUN, 6, [])])):
+            ready_head(talk)
     elif place.state is not None and talk.state() != place.state:
         new_head(talk)
         if place.state != State.ASLEEP:
