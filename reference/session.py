@@ -132,8 +132,8 @@ class Owed(NamedTuple):
 class Session:
     """A session. It keeps no bus: each call is given one.
 
-    A command in flight, which is begun and not yet collected, is kept as a parked one is. So parking it is to do nothing
-    more with it.
+    A command in flight, which is begun and not yet collected, is kept as a parked one is. So parking it is to do
+    nothing more with it.
     """
 
     def __init__(self) -> None:

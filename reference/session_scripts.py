@@ -1,13 +1,13 @@
 """Scripts of calls on a session with a camera head, and of raw accesses between them.
 
-The subjects take turns, and so do the cases of a subject, as in the scripts over camera heads. A script goes on with other
-subjects until it is long enough. Every third one has an error at its end.
+The subjects take turns, and so do the cases of a subject, as in the scripts over camera heads. A script goes on with
+other subjects until it is long enough. Every third one has an error at its end.
 """
 
 from __future__ import annotations
 
 from random import Random
-from typing import Callable, NamedTuple, Optional, Sequence
+from typing import Callable, NamedTuple, Optional, Sequence, Union
 
 import camera
 import set_words
@@ -43,7 +43,7 @@ class SessionTalk(Conversation):
         self.in_flight: Optional[Type] = None
         """The kind of the command in flight, if there is one."""
 
-    def say(self, *fields: object) -> None:
+    def say(self, *fields: Union[str, int]) -> None:
         """Adds a line. A command that is in flight is collected or parked by it."""
         super().say(*fields)
         self.in_flight = None
@@ -328,7 +328,7 @@ def booting(talk: SessionTalk, turn: int) -> None:
 
 
 def waking(talk: SessionTalk, turn: int) -> None:
-    """A camera has had raw commands, right and wrong, before it is woken, and is still busy with the last one or not."""
+    """A camera has had raw commands, right and wrong, before it is woken, and may still be busy with the last one."""
     random = talk.random
     for _ in range(4):
         polls = random.choice([0, 1, 3, 1000])
@@ -526,14 +526,15 @@ def steps(talk: SessionTalk, turn: int) -> None:
         keep_ready(talk, small_busy(random))
         if not talk.begin(kind, attribute.number, words_for(random, attribute, kind)):
             continue
-        ending = random.choice(["collect", "collect", "collect", "wrong size", "wrong budget", "park"])
+        ending = random.choice(["collect", "collect", "collect", "wrong size", "wrong budget", "both wrong", "park"])
         if ending == "park":
             talk.park()
             talk.look()
             every_call(talk, 2, random.choice(BUDGETS))
             continue
-        size = wrong_size(random, attribute.words) if ending == "wrong size" else attribute.words
-        talk.collect(size, random.choice([0, 1, 1001, 65535] if ending == "wrong budget" else PLENTY))
+        size = wrong_size(random, attribute.words) if ending in ("wrong size", "both wrong") else attribute.words
+        budget = random.choice([0, 1001, 65535] if ending in ("wrong budget", "both wrong") else PLENTY)
+        talk.collect(size, budget)
         talk.look(attribute.number)
         if random.random() < 0.3:
             every_call(talk, 2, 10)
@@ -577,6 +578,9 @@ def raw_while_busy(talk: SessionTalk, turn: int) -> None:
         talk.look()
     talk.wait()
     every_call(talk, 2, 10)
+    if talk.is_idle() and random.random() < 0.5:
+        talk.command(any_command_word(random), random.choice([0, 2]))
+        every_call(talk, 2, 10)
     talk.look_at_all()
 
 
@@ -706,16 +710,16 @@ NOT_IN_FLIGHT = ["collect 2 100", "park", "collect 0 0", "collect 1024 65535"]
 NOT_READY = ["begin get 17", "begin set 17 0 0", "begin run 6", "begin get 20", "begin set 17", "begin run 17"]
 """What needs a session that is ready."""
 WHILE_IN_FLIGHT = [
-    "boot 1", "read 2", "state", "make", "begin run 6", "wake 10", "get 17 2 100", "write 6 0", "crc 6E", "set 17 10 0 0",
-    "run 6 10", "attribute 17", "frame 4800x1", "busy", "acks", "links 0", "serial 1", "fpa 1", "put single 5",
-    "take single 5", "request read 2", "reply write done", "unpack-request 6E", "unpack-reply read 6E", "begin get 17",
-    "begin set 17 0 0", "busy 1", "acks 1", "links 1", "crc",
+    "boot 1", "read 2", "state", "make", "begin run 6", "wake 10", "get 17 2 100", "write 6 0", "crc 6E",
+    "set 17 10 0 0", "run 6 10", "attribute 17", "frame 4800x1", "busy", "acks", "links 0", "serial 1", "fpa 1",
+    "put single 5", "take single 5", "request read 2", "reply write done", "unpack-request 6E", "unpack-reply read 6E",
+    "begin get 17", "begin set 17 0 0", "busy 1", "acks 1", "links 1", "crc",
 ]
 """What is an error while a command is in flight."""
 THIRD = len(WHILE_IN_FLIGHT) // 3
 MISSING = [
-    "wake", "get 17 2", "set 17", "run 17", "begin", "begin get", "begin set", "begin run", "get", "get 17", "set", "run",
-    "begin get # 17", "set 17 # 100",
+    "wake", "get 17 2", "set 17", "run 17", "begin", "begin get", "begin set", "begin run", "get", "get 17", "set",
+    "run", "begin get # 17", "set 17 # 100",
 ]
 EXTRA = [
     "wake 1 1", "get 17 2 100 0", "run 6 100 0", "begin get 17 2", "begin run 6 0", "wake 1000 1", "get 17 2 100 :",
@@ -723,14 +727,15 @@ EXTRA = [
 ]
 BAD_SIZES = ["1025", "0x401", "-1", "65535", "65536", "1_0", "0x", "two", "4294967296", "18446744073709551616"]
 OTHER_WORDS = [
-    "begin erase 17", "begin 17", "begin Get 17", "begin wake 1", "begin begin get 17", "begin collect 2 1", "begin park",
-    "begin get get", "Wake 1", "waked 1", "gets 17 2 100", "resume 2 100", "resume", "sets 17 100 0 0", "check 17",
-    "SET 17 100 0 0", "runs 6 1", "parks", "collects 2 1", "check_set 17 0 0", "begin resume 2", "wake ok",
-    "get attribute 17 2 1", "begin-get 17", "set 17 100 : 0 0", "set 17 100 FFFD FFFF", "set 17 100 -3", "set 17 100 1,1",
+    "begin erase 17", "begin 17", "begin Get 17", "begin wake 1", "begin begin get 17", "begin collect 2 1",
+    "begin park", "begin get get", "Wake 1", "waked 1", "gets 17 2 100", "resume 2 100", "resume", "sets 17 100 0 0",
+    "check 17", "SET 17 100 0 0", "runs 6 1", "parks", "collects 2 1", "check_set 17 0 0", "begin resume 2", "wake ok",
+    "get attribute 17 2 1", "begin-get 17", "set 17 100 : 0 0", "set 17 100 FFFD FFFF", "set 17 100 -3",
+    "set 17 100 1,1",
 ]
 WRONG_IN_FLIGHT = [
-    "collect", "collect 2", "park 1", "collect 2 100 0", "collect 1025 1", "collect 2 65536", "collect -1 1", "collect 2 x",
-    "collect 0x401 1", "park ok", "collect : 1", "Park", "collect 2 0x",
+    "collect", "collect 2", "park 1", "collect 2 100 0", "collect 1025 1", "collect 2 65536", "collect -1 1",
+    "collect 2 x", "collect 0x401 1", "park ok", "collect : 1", "Park", "collect 2 0x",
 ]
 
 
@@ -739,9 +744,9 @@ def bad_number_line(random: Random, turn: int) -> Line:
     bad = taken(BAD_NUMBERS, turn)
     fields = random.choice(
         [["wake", bad], ["get", bad, "2", "100"], ["get", "17", "2", bad], ["set", bad, "100", "0", "0"],
-         ["set", "17", bad, "0", "0"], ["set", "17", "100", bad, "0"], ["set", "17", "100", "0", bad], ["run", bad, "1"],
-         ["run", "6", bad], ["begin", "get", bad], ["begin", "run", bad], ["begin", "set", bad, "0"],
-         ["begin", "set", "17", "0", bad], ["begin", "set", "17", "0", word(random), bad]]
+         ["set", "17", bad, "0", "0"], ["set", "17", "100", bad, "0"], ["set", "17", "100", "0", bad],
+         ["run", bad, "1"], ["run", "6", bad], ["begin", "get", bad], ["begin", "run", bad],
+         ["begin", "set", bad, "0"], ["begin", "set", "17", "0", bad], ["begin", "set", "17", "0", word(random), bad]]
     )
     return line_of(random, fields)
 

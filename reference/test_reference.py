@@ -10,6 +10,7 @@ import subprocess
 import sys
 import tempfile
 import unittest
+import unittest.mock
 from random import Random
 from typing import Callable, Optional, Sequence
 
@@ -482,9 +483,10 @@ class FirstTests(unittest.TestCase):
     """What is refused before any access."""
 
     def check(self, head: Head, session: Session, call: Callable[[], object], number: int) -> None:
-        before = (vars(head).copy(), list(head.data), session.awake, session.owed)
-        self.assertEqual(refused(call), f"refused {number}")
-        self.assertEqual((vars(head), head.data, session.awake, session.owed), before)
+        before = (session.awake, session.owed)
+        with unittest.mock.patch.object(head, "reach", side_effect=AssertionError("an access")):
+            self.assertEqual(refused(call), f"refused {number}")
+        self.assertEqual((session.awake, session.owed), before)
 
     def test_1_and_3_come_first(self) -> None:
         for number, (head, session) in ((1, (made(), Session())), (3, parked_get())):
@@ -500,7 +502,8 @@ class FirstTests(unittest.TestCase):
 
     def test_5_comes_before_6_and_7(self) -> None:
         head, session = ready()
-        lacking = {Type.GET: [6, 19, 20, 65535], Type.SET: [1, 3, 6, 15, 18, 19, 20, 65535], Type.RUN: [0, 9, 17, 20, 65535]}
+        lacking = {Type.GET: [6, 19, 20, 65535], Type.SET: [1, 3, 6, 15, 18, 19, 20, 65535],
+                   Type.RUN: [0, 9, 17, 20, 65535]}
         for size, budget in itertools.product((0, 2), (0, 5)):
             for attribute in lacking[Type.GET]:
                 self.check(head, session, lambda: session.get(head, attribute, [0] * size, budget), 5)
@@ -511,7 +514,8 @@ class FirstTests(unittest.TestCase):
 
     def test_6_comes_before_7(self) -> None:
         head, session = ready()
-        for budget, (attribute, size) in itertools.product((0, 5), ((17, 1), (17, 3), (17, 0), (9, 511), (9, 513), (9, 2))):
+        wrong = ((17, 1), (17, 3), (17, 0), (9, 511), (9, 513), (9, 2))
+        for budget, (attribute, size) in itertools.product((0, 5), wrong):
             self.check(head, session, lambda: session.get(head, attribute, [0] * size, budget), 6)
             self.check(head, session, lambda: session.set(head, attribute, [0] * size, budget), 6)
 
@@ -901,8 +905,9 @@ class Directives(unittest.TestCase):
                    "begin ok")
         self.check("make\nwake 1\nbegin get 17\ncollect 3 0\nget 17 2 9", *begun, "collect refused 6 : EEEE EEEE EEEE",
                    "get refused 3 : EEEE EEEE")
-        self.check("busy 1\nmake\nwake 1\nbegin get 17\n\n# in flight\npark\nstate\nwrite 6 2\nread 2", *begun, "park ok",
-                   "state session parked hung no boot 0 busy 1 code 0 count 1 length 2 saved no", "write ok", "read ok 0007")
+        self.check("busy 1\nmake\nwake 1\nbegin get 17\n\n# in flight\npark\nstate\nwrite 6 2\nread 2", *begun,
+                   "park ok", "state session parked hung no boot 0 busy 1 code 0 count 1 length 2 saved no", "write ok",
+                   "read ok 0007")
         self.check("acks 10\nmake\nwake 1\nbegin get 17\nbegin get 17", "make ok", "wake ok",
                    "begin refused 8 at 0006", "begin ok")
 
@@ -1006,12 +1011,12 @@ class Generated(unittest.TestCase):
         self.require_answers(wanted)
 
     def test_every_kind_of_answer_of_sessions_comes_up(self) -> None:
-        wanted = {"wake ok", "get ok :", "set ok", "run ok", "begin ok", "collect ok :", "park ok", "wake refused 8 at 0002"}
+        wanted = {"wake ok", "get ok :", "set ok", "run ok", "begin ok", "collect ok :", "park ok"}
         refusals = {"wake": (2, 7, 9), "get": (1, 3, 5, 6, 7, 9), "set": (1, 3, 5, 6, 7, 9), "run": (1, 3, 5, 7, 9),
                     "begin": (5, 6), "collect": (6, 7, 9)}
         wanted |= {f"{name} refused {number}" for name, numbers in refusals.items() for number in numbers}
-        reached = {"get": (2, 4, 6, 8, 10, 0xFBFE), "set": (2, 4, 6, 8, 10, 0xF800, 0xF802), "run": (2, 4, 6),
-                   "begin": (4, 6, 8, 10, 0xF800), "collect": (2, 8, 10, 0xFBFE)}
+        reached = {"wake": (2,), "get": (2, 4, 6, 8, 10, 0xFBFE), "set": (2, 4, 6, 8, 10, 0xF800, 0xF802),
+                   "run": (2, 4, 6), "begin": (4, 6, 8, 10, 0xF800), "collect": (2, 8, 10, 0xFBFE)}
         wanted |= {f"{name} refused 8 at {address:04X}" for name, addresses in reached.items() for address in addresses}
         wanted |= {f"{name} refused 10 code {code}" for name, code in (
             ("set", -9), ("run", -15), ("run", -18), ("collect", -9), ("collect", -15), ("collect", -18))}
