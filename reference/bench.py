@@ -15,13 +15,14 @@ import camera
 import packets
 import values
 from bus import Bus, Fault
-from camera import Head, HeadRefused
+from camera import Head, HeadRefused, Type
 from crc import checksum
 from link import PacketLink
 from packets import Function, Refused, Reply, Request, Status
 from script import (
     FieldError, Fields, ScriptError, parse_numbers, require_few, split_fields, without_ending,
 )
+from session import CallRefused, Session, State
 
 LARGEST_WORD = 0xFFFF
 LARGEST_SIZE = 1024
@@ -31,6 +32,7 @@ MOST_MARKS = 5000
 MOST_PIXELS = 65535
 MOST_LINKS = 2
 FILLER = 0xEE
+WORD_FILLER = 0xEEEE
 
 KINDS: dict[str, Union[values.NumberKind, values.RegionKind]] = {
     "single": values.SINGLE,
@@ -49,6 +51,9 @@ REPLIES = {
     Function.WRITE: {"done": Status.CARRIED_OUT, "no-ack": Status.NO_ACK, "no-register": Status.NO_REGISTER},
 }
 """The words for the replies that can answer a function."""
+
+COMMANDS = {"get": Type.GET, "set": Type.SET, "run": Type.RUN}
+"""The words for kinds of commands."""
 
 
 class Answer(NamedTuple):
@@ -104,6 +109,15 @@ def written(name: str, packet: bytes, size: Optional[int]) -> str:
     return name + listed(buffer[:length] if size is None else buffer)
 
 
+def called(name: str, call: Callable[[], None]) -> str:
+    """The answer of a directive that makes a call on a session, or takes a step of one."""
+    try:
+        call()
+    except CallRefused as refused:
+        return f"{name} {refused}"
+    return f"{name} ok"
+
+
 class Bench:
     """One run of the bench. What directives leave for later ones is kept here.
 
@@ -131,6 +145,13 @@ class Bench:
             "frame": self.frame,
             "state": self.state,
             "attribute": self.attribute,
+            "wake": self.wake,
+            "get": self.get,
+            "set": self.set,
+            "run": self.run,
+            "begin": self.begin,
+            "collect": self.collect,
+            "park": self.park,
         }
         self.settings = camera.Settings()
         self.link_count = 0
@@ -138,10 +159,16 @@ class Bench:
         self.made: Optional[Head] = None
         self.made_bus: Optional[Bus] = None
         """The head under its links."""
+        self.session = Session()
+        """The session with the head. There is none to speak of while there is no head."""
+        self.in_flight = False
+        """Whether the session has a command in flight: begun, and neither collected nor parked."""
 
     def carry_out(self, fields: Fields) -> Optional[str]:
         """Carries out the directive of one line. A field that is left over is an error."""
         directive = fields.choice(self.directives, "directive")
+        if self.in_flight and directive not in (self.collect, self.park):
+            raise FieldError("a command is in flight")
         answer = directive(fields)
         fields.end()
         return answer
@@ -243,6 +270,7 @@ class Bench:
         self.made_bus = self.made
         for _ in range(self.link_count):
             self.made_bus = PacketLink(self.made_bus)
+        self.session = Session()
         return "make ok"
 
     def head(self) -> Head:
@@ -290,12 +318,75 @@ class Bench:
         polls = f"boot {head.boot_polls} busy {head.busy_polls}"
         numbers = f"code {head.code} count {head.count} length {head.length}"
         saved = yes_or_no(head.saved is not None)
-        return f"state session asleep hung {yes_or_no(head.hung)} {polls} {numbers} saved {saved}"
+        return f"state session {self.session.state().value} hung {yes_or_no(head.hung)} {polls} {numbers} saved {saved}"
 
     def attribute(self, fields: Fields) -> str:
         """`attribute NUMBER`"""
         number = fields.number(len(camera.ATTRIBUTES) - 1, "attribute")
         return f"attribute {number}{listed_words(self.head().shown(number))}"
+
+    # The session
+
+    def wake(self, fields: Fields) -> str:
+        """`wake BUDGET`"""
+        budget = fields.number(LARGEST_WORD, "budget")
+        bus = self.bus()
+        return called("wake", lambda: self.session.wake(bus, budget))
+
+    def get(self, fields: Fields) -> str:
+        """`get ATTRIBUTE SIZE BUDGET`"""
+        number = fields.number(LARGEST_WORD, "attribute")
+        buffer = [WORD_FILLER] * fields.number(LARGEST_SIZE, "size")
+        budget = fields.number(LARGEST_WORD, "budget")
+        bus = self.bus()
+        return called("get", lambda: self.session.get(bus, number, buffer, budget)) + listed_words(buffer)
+
+    def set(self, fields: Fields) -> str:
+        """`set ATTRIBUTE BUDGET WORDS..`"""
+        number = fields.number(LARGEST_WORD, "attribute")
+        budget = fields.number(LARGEST_WORD, "budget")
+        words = fields.rest_as_numbers(LARGEST_WORD, "word")
+        bus = self.bus()
+        return called("set", lambda: self.session.set(bus, number, words, budget))
+
+    def run(self, fields: Fields) -> str:
+        """`run ATTRIBUTE BUDGET`"""
+        number = fields.number(LARGEST_WORD, "attribute")
+        budget = fields.number(LARGEST_WORD, "budget")
+        bus = self.bus()
+        return called("run", lambda: self.session.run(bus, number, budget))
+
+    def begin(self, fields: Fields) -> str:
+        """`begin get ATTRIBUTE`, `begin set ATTRIBUTE WORDS..`, `begin run ATTRIBUTE`"""
+        kind = fields.choice(COMMANDS, "command")
+        number = fields.number(LARGEST_WORD, "attribute")
+        words = fields.rest_as_numbers(LARGEST_WORD, "word") if kind == Type.SET else []
+        bus = self.bus()
+        if self.session.state() != State.READY:
+            raise FieldError("the session is not ready")
+        answer = called("begin", lambda: self.session.begin(bus, kind, number, words))
+        self.in_flight = self.session.state() == State.PARKED
+        return answer
+
+    def require_in_flight(self) -> None:
+        """Makes sure that a command is in flight."""
+        if not self.in_flight:
+            raise FieldError("no command is in flight")
+
+    def collect(self, fields: Fields) -> str:
+        """`collect SIZE BUDGET`"""
+        buffer = [WORD_FILLER] * fields.number(LARGEST_SIZE, "size")
+        budget = fields.number(LARGEST_WORD, "budget")
+        self.require_in_flight()
+        self.in_flight = False
+        bus = self.bus()
+        return called("collect", lambda: self.session.collect(bus, buffer, budget)) + listed_words(buffer)
+
+    def park(self, fields: Fields) -> str:
+        """`park`"""
+        self.require_in_flight()
+        self.in_flight = False
+        return "park ok"
 
 
 def run(lines: Iterable[bytes]) -> Iterator[Answer]:

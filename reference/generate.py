@@ -1,8 +1,8 @@
 #!/usr/bin/env python3
 """Prints a generated bench script: generate.py SEED.
 
-The same seed always gives the same script. Even seeds give scripts of packets and values, odd ones scripts over camera
-heads.
+The same seed always gives the same script. Scripts of packets and values, scripts over camera heads, and scripts of calls
+on sessions take turns.
 """
 
 from __future__ import annotations
@@ -12,12 +12,16 @@ from random import Random
 
 from head_scripts import head_script
 from packet_scripts import packet_script
+from session_scripts import session_script
+
+SUBJECTS = [packet_script, head_script, session_script]
+"""What makes the scripts, in turn."""
 
 
 def generate(seed: int) -> bytes:
     """The script of a seed."""
-    turn, odd = divmod(seed, 2)
-    return (head_script if odd else packet_script)(Random(seed), turn)
+    turn, subject = divmod(seed, len(SUBJECTS))
+    return SUBJECTS[subject](Random(seed), turn)
 
 
 def main() -> int:

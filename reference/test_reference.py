@@ -10,6 +10,7 @@ import subprocess
 import sys
 import tempfile
 import unittest
+import unittest.mock
 from random import Random
 from typing import Callable, Optional, Sequence
 
@@ -24,6 +25,7 @@ import link
 import packet_scripts
 import packets
 import script
+import session_scripts
 import set_words
 import values
 from bus import Bus, Fault
@@ -31,6 +33,7 @@ from camera import ATTRIBUTES, COMMAND, DATA, LENGTH, STATUS, Head, HeadRefused,
 from crc import checksum, sealed
 from damage import Draft
 from packets import Function, Refused, Reply, Request, Status
+from session import CallRefused, Owed, Session, Stage, State
 
 HERE = os.path.dirname(os.path.abspath(__file__))
 EXAMPLE = bytes.fromhex("6E 00 00 10 00 02 BC 9A 00 02 20 42")
@@ -443,6 +446,218 @@ class Commands(unittest.TestCase):
         self.assertEqual((head.shown(13), head.shown(9)[1]), ([7], 0xABCD))
 
 
+ENOUGH = 50
+"""A budget that is enough."""
+
+
+def refused(call: Callable[[], object]) -> str:
+    """What a call is refused with, or nothing in words."""
+    try:
+        call()
+    except CallRefused as found:
+        return str(found)
+    return ""
+
+
+def woken(head: Head) -> Session:
+    """A session that is ready, on a head that has booted and has a mark for the wake."""
+    session = Session()
+    session.wake(head, 1)
+    return session
+
+
+def ready(*busy_numbers: int, marks: str = "") -> tuple[Head, Session]:
+    """A head and a session that is ready. The marks are those behind the wake."""
+    head = made(busy_numbers=list(busy_numbers), marks=[True, *(mark == "1" for mark in marks)])
+    return head, woken(head)
+
+
+def parked_get() -> tuple[Head, Session]:
+    """A head that is busy for two polls, and a session that is parked with a get of the sync delay."""
+    head, session = ready(2)
+    session.begin(head, Type.GET, 17)
+    return head, session
+
+
+class FirstTests(unittest.TestCase):
+    """What is refused before any access."""
+
+    def check(self, head: Head, session: Session, call: Callable[[], object], number: int) -> None:
+        before = (session.awake, session.owed)
+        with unittest.mock.patch.object(head, "reach", side_effect=AssertionError("an access")):
+            self.assertEqual(refused(call), f"refused {number}")
+        self.assertEqual((session.awake, session.owed), before)
+
+    def test_1_and_3_come_first(self) -> None:
+        for number, (head, session) in ((1, (made(), Session())), (3, parked_get())):
+            for attribute, size, budget in itertools.product((17, 20), (2, 3), (0, 5)):
+                self.check(head, session, lambda: session.get(head, attribute, [0] * size, budget), number)
+                self.check(head, session, lambda: session.set(head, attribute, [0] * size, budget), number)
+                self.check(head, session, lambda: session.run(head, attribute, budget), number)
+
+    def test_2(self) -> None:
+        for head, session in (ready(), parked_get()):
+            for budget in (0, 1, 1001):
+                self.check(head, session, lambda: session.wake(head, budget), 2)
+
+    def test_5_comes_before_6_and_7(self) -> None:
+        head, session = ready()
+        lacking = {Type.GET: [6, 19, 20, 65535], Type.SET: [1, 3, 6, 15, 18, 19, 20, 65535],
+                   Type.RUN: [0, 9, 17, 20, 65535]}
+        for size, budget in itertools.product((0, 2), (0, 5)):
+            for attribute in lacking[Type.GET]:
+                self.check(head, session, lambda: session.get(head, attribute, [0] * size, budget), 5)
+            for attribute in lacking[Type.SET]:
+                self.check(head, session, lambda: session.set(head, attribute, [0] * size, budget), 5)
+            for attribute in lacking[Type.RUN]:
+                self.check(head, session, lambda: session.run(head, attribute, budget), 5)
+
+    def test_6_comes_before_7(self) -> None:
+        head, session = ready()
+        wrong = ((17, 1), (17, 3), (17, 0), (9, 511), (9, 513), (9, 2))
+        for budget, (attribute, size) in itertools.product((0, 5), wrong):
+            self.check(head, session, lambda: session.get(head, attribute, [0] * size, budget), 6)
+            self.check(head, session, lambda: session.set(head, attribute, [0] * size, budget), 6)
+
+    def test_7(self) -> None:
+        head, session = ready()
+        asleep = Session()
+        for budget in (0, 1001, 65535):
+            self.check(head, asleep, lambda: asleep.wake(head, budget), 7)
+            self.check(head, session, lambda: session.get(head, 17, [0] * 2, budget), 7)
+            self.check(head, session, lambda: session.set(head, 17, [0] * 2, budget), 7)
+            self.check(head, session, lambda: session.run(head, 6, budget), 7)
+        self.assertEqual(refused(lambda: session.run(head, 6, 1000)), "")
+
+    def test_a_collection_is_refused_and_stays_parked(self) -> None:
+        head, session = parked_get()
+        self.check(head, session, lambda: session.collect(head, [0], 0), 6)
+        self.check(head, session, lambda: session.collect(head, [0] * 2, 1001), 7)
+        self.assertEqual(refused(lambda: session.collect(head, [0] * 2, 3)), "")
+        for kind, attribute in ((Type.SET, 17), (Type.RUN, 6)):
+            session.begin(head, kind, attribute, [0, 0] if kind == Type.SET else [])
+            self.check(head, session, lambda: session.collect(head, [0] * 9, 0), 7)
+            self.assertEqual(refused(lambda: session.collect(head, [0] * 9, 1)), "")
+
+    def test_beginning(self) -> None:
+        head, session = ready()
+        self.check(head, session, lambda: session.begin(head, Type.GET, 19), 5)
+        self.check(head, session, lambda: session.begin(head, Type.SET, 3, [1, 2, 3]), 5)
+        self.check(head, session, lambda: session.begin(head, Type.SET, 17, [1]), 6)
+        self.check(head, session, lambda: session.begin(head, Type.RUN, 17), 5)
+        self.assertRaises(ValueError, Session().begin, head, Type.GET, 17)
+        self.assertRaises(ValueError, session.collect, head, [], 5)
+
+
+class Calls(unittest.TestCase):
+    """What calls do."""
+
+    def test_wakes(self) -> None:
+        head, session = made(boot_polls=3, marks=[True, False]), Session()
+        self.assertEqual(refused(lambda: session.wake(head, 1)), "refused 9")
+        self.assertEqual(refused(lambda: session.wake(head, 1)), "refused 8 at 0002")
+        self.assertEqual(refused(lambda: session.wake(head, 2)), "refused 9")
+        self.assertEqual((session.state(), head.boot_polls), (State.ASLEEP, 0))
+        self.assertEqual(refused(lambda: session.wake(head, 1)), "")
+        self.assertEqual(session.state(), State.READY)
+
+    def test_a_wake_waits_for_a_busy_camera(self) -> None:
+        head, session = made(busy_numbers=[2]), Session()
+        head.write(COMMAND, 0)
+        self.assertEqual(refused(lambda: session.wake(head, 2)), "refused 9")
+        self.assertEqual(refused(lambda: session.wake(head, 1)), "")
+
+    def test_all_commands(self) -> None:
+        random = Random(2)
+        head, session = ready(*[1] * 64)
+        for attribute in ATTRIBUTES:
+            buffer = [0xEEEE] * attribute.words
+            if Type.SET in attribute.types:
+                words = set_words.right_words(random, attribute)
+                session.set(head, attribute.number, words, 2)
+                self.assertEqual((head.shown(attribute.number), head.length), (words, attribute.words))
+            if Type.GET in attribute.types:
+                session.get(head, attribute.number, buffer, 2)
+                self.assertEqual(buffer, head.shown(attribute.number))
+            if Type.RUN in attribute.types:
+                session.run(head, attribute.number, 2)
+                self.assertEqual(head.length, 0)
+        self.assertEqual((session.state(), head.count, head.hung), (State.READY, 34, False))
+
+    def test_budgets_about_the_busy_polls(self) -> None:
+        for polls in (0, 1, 2, 999):
+            head, session = ready(polls)
+            session.run(head, 6, polls + 1)
+            self.assertEqual(session.state(), State.READY)
+        for polls, budget in ((1, 1), (2, 1), (2, 2), (999, 999), (1000, 1000), (1001, 1000), (9999, 1000)):
+            head, session = ready(polls)
+            self.assertEqual(refused(lambda: session.run(head, 6, budget)), "refused 9")
+            self.assertEqual((session.state(), head.busy_polls), (State.PARKED, polls - budget))
+
+    def test_a_refusal_of_the_camera_leaves_a_ready_session(self) -> None:
+        head, session = ready(1, 0, 0, 1)
+        self.assertEqual(refused(lambda: session.set(head, 17, [4, 0], 5)), "refused 10 code -9")
+        self.assertEqual(refused(lambda: session.run(head, 19, 5)), "refused 10 code -18")
+        self.assertEqual(refused(lambda: session.run(head, 18, 5)), "")
+        self.assertEqual(refused(lambda: session.run(head, 18, 5)), "refused 10 code -15")
+        self.assertEqual(session.state(), State.READY)
+
+    def test_a_missing_mark_at_every_place(self) -> None:
+        cases: list[tuple[Type, int, list[int]]] = [
+            (Type.GET, 17, [LENGTH, COMMAND, STATUS, STATUS, DATA, DATA + 2]),
+            (Type.SET, 17, [DATA, DATA + 2, LENGTH, COMMAND, STATUS, STATUS]),
+            (Type.RUN, 6, [LENGTH, COMMAND, STATUS, STATUS]),
+        ]
+        for kind, number, addresses in cases:
+            taken = addresses.index(COMMAND)
+            for place, address in enumerate(addresses):
+                head, session = ready(1, marks="1" * place + "0")
+                head.attributes[17] = [1, 0]
+                buffer = [0xEEEE] * 2
+                call = {Type.GET: lambda: session.get(head, number, buffer, ENOUGH),
+                        Type.SET: lambda: session.set(head, number, [2, 0], ENOUGH),
+                        Type.RUN: lambda: session.run(head, number, ENOUGH)}[kind]
+                self.assertEqual(refused(call), f"refused 8 at {address:04X}")
+                stage = Stage.READS if kind == Type.GET and address in (DATA, DATA + 2) else Stage.WAITS
+                owed = Owed(kind, ATTRIBUTES[number], stage) if place > taken else None
+                self.assertEqual((session.owed, head.count), (owed, int(place > taken)), (kind, place))
+                self.assertEqual(buffer, [1, 0xEEEE] if kind == Type.GET and address == DATA + 2 else [0xEEEE] * 2)
+                if owed is None:
+                    self.assertEqual(refused(call), "")
+                    continue
+                self.assertEqual(refused(call), "refused 3")
+                self.assertEqual(refused(lambda: session.collect(head, buffer, ENOUGH)), "")
+                self.assertEqual(buffer, [1, 0] if kind == Type.GET else [0xEEEE] * 2)
+
+    def test_the_block_in_parts(self) -> None:
+        head, session = ready(marks="1" * 512 + "0")
+        self.assertEqual(refused(lambda: session.set(head, 9, [5] * 512, 1)), "refused 8 at 0006")
+        head, session = ready(marks="1" * 514 + "0")
+        buffer = [0xEEEE] * 512
+        self.assertEqual(refused(lambda: session.get(head, 9, buffer, 1)), "refused 8 at FBFE")
+        self.assertEqual(buffer, [0] * 511 + [0xEEEE])
+
+    def test_a_budget_counts_acknowledged_reads(self) -> None:
+        head, session = ready(5, marks="1110")
+        self.assertEqual(refused(lambda: session.run(head, 6, 1)), "refused 9")
+        self.assertEqual(refused(lambda: session.collect(head, [], 1)), "refused 8 at 0002")
+
+    def test_a_hung_camera_is_waited_for_in_vain(self) -> None:
+        head, session = ready(1)
+        head.write(COMMAND, 0)
+        self.assertEqual(refused(lambda: session.get(head, 17, [0] * 2, 20)), "refused 9")
+        self.assertEqual((head.hung, session.state()), (True, State.PARKED))
+
+    def test_over_links(self) -> None:
+        head = made(busy_numbers=[2], marks=[True] * 6 + [False])
+        bus = link.PacketLink(link.PacketLink(head))
+        session, buffer = Session(), [0xEEEE] * 2
+        session.wake(bus, 1)
+        self.assertEqual(refused(lambda: session.get(bus, 17, buffer, ENOUGH)), "refused 8 at 0008")
+        self.assertEqual(refused(lambda: session.collect(bus, buffer, ENOUGH)), "")
+        self.assertEqual(buffer, [0, 0])
+
+
 class SetLimits(unittest.TestCase):
     def test_ranges(self) -> None:
         for attribute in ATTRIBUTES:
@@ -664,6 +879,63 @@ class Directives(unittest.TestCase):
                        "make ok", "read ok 0006", "read refused 21 at 0002", "read refused 22 at 0001", "frame ok",
                        "attribute 15 : 0007", "read ok 0006")
 
+    def test_calls(self) -> None:
+        self.check("boot 1\nmake\nwake 1\nwake 0\nwake 1\nstate\nwake 1",
+                   "make ok", "wake refused 9", "wake refused 7", "wake ok",
+                   "state session ready hung no boot 0 busy 0 code 0 count 0 length 0 saved no", "wake refused 2")
+        self.check("make\nget 17 2 9\nwake 1\nset 17 1 0xFFFD 65535\nget 17 2 1\nget 17 3 1\nget 6 0 1\nget 17 2 0",
+                   "make ok", "get refused 1 : EEEE EEEE", "wake ok", "set ok", "get ok : FFFD FFFF",
+                   "get refused 6 : EEEE EEEE EEEE", "get refused 5 :", "get refused 7 : EEEE EEEE")
+        self.check("make\nwake 1\nset 17 1 4 0\nset 17 1\nrun 19 1\nrun 18 1\nrun 65535 1\nset 20 0",
+                   "make ok", "wake ok", "set refused 10 code -9", "set refused 6", "run refused 10 code -18", "run ok",
+                   "run refused 5", "set refused 5")
+        self.check("acks 111110\nmake\nwake 1\nget 17 2 9\nget 17 2 9\nmake\nstate",
+                   "make ok", "wake ok", "get refused 8 at 000A : 0000 EEEE", "get refused 3 : EEEE EEEE", "make ok",
+                   "state session asleep hung no boot 0 busy 0 code 0 count 0 length 0 saved no")
+
+    def test_steps(self) -> None:
+        begun = ["make ok", "wake ok", "begin ok"]
+        self.check("busy 1\nmake\nwake 1\nbegin get 15\ncollect 1 2\nbegin get 6", *begun, "collect ok : 0000",
+                   "begin refused 5")
+        self.check("busy 1\nmake\nwake 1\nbegin set 17 3 0\ncollect 1 2\nbegin set 17 1\nget 17 2 1", *begun,
+                   "collect ok : EEEE", "begin refused 6", "get ok : 0003 0000")
+        self.check("busy 1\nmake\nwake 1\nbegin run 19\ncollect 0 1\nrun 6 1", *begun, "collect refused 9 :",
+                   "run refused 3")
+        self.check("make\nwake 1\nbegin run 19\ncollect 1 1\nbegin run 6", *begun, "collect refused 10 code -18 : EEEE",
+                   "begin ok")
+        self.check("make\nwake 1\nbegin get 17\ncollect 3 0\nget 17 2 9", *begun, "collect refused 6 : EEEE EEEE EEEE",
+                   "get refused 3 : EEEE EEEE")
+        self.check("busy 1\nmake\nwake 1\nbegin get 17\n\n# in flight\npark\nstate\nwrite 6 2\nread 2", *begun,
+                   "park ok", "state session parked hung no boot 0 busy 1 code 0 count 1 length 2 saved no", "write ok",
+                   "read ok 0007")
+        self.check("acks 10\nmake\nwake 1\nbegin get 17\nbegin get 17", "make ok", "wake ok",
+                   "begin refused 8 at 0006", "begin ok")
+
+    def test_a_refused_make_keeps_the_session(self) -> None:
+        self.check("make\nwake 1\nboot 10000\nmake\nrun 6 1", "make ok", "wake ok", "make refused 53", "run ok")
+
+    def test_errors_of_scripts_with_calls(self) -> None:
+        wrong = session_scripts.MISSING + session_scripts.EXTRA + session_scripts.OTHER_WORDS
+        wrong += session_scripts.NOT_IN_FLIGHT + [f"get 17 {size} 1" for size in session_scripts.BAD_SIZES]
+        for front in ("make", "make\nwake 1", "make\nwake 1\nbegin get 17\npark"):
+            line = front.count("\n") + 2
+            for text in wrong + ([] if front.endswith("wake 1") else session_scripts.NOT_READY):
+                answers, error = transcript(f"{front}\n{text}\nstate".encode())
+                self.assertEqual((len(answers), error), (line - 1, line), text)
+
+    def test_errors_while_a_command_is_in_flight(self) -> None:
+        for text in session_scripts.WHILE_IN_FLIGHT + session_scripts.WRONG_IN_FLIGHT + session_scripts.OTHER_WORDS:
+            answers, error = transcript(f"make\nwake 1\nbegin set 17 0 0\n{text}\npark".encode())
+            self.assertEqual((answers, error), (["make ok", "wake ok", "begin ok"], 4), text)
+
+    def test_every_directive_is_tried_while_a_command_is_in_flight(self) -> None:
+        tried = {text.split()[0] for text in session_scripts.WHILE_IN_FLIGHT}
+        self.assertEqual(tried, set(bench.Bench().directives) - {"collect", "park"})
+
+    def test_calls_need_a_head(self) -> None:
+        for text in session_scripts.NO_HEAD:
+            self.assertEqual(transcript(f"boot 10000\nmake\n{text}".encode()), (["make refused 53"], 3), text)
+
     def test_directives_that_need_a_head(self) -> None:
         for line in head_scripts.NO_HEAD:
             self.assertEqual(transcript(f"boot 10000\nmake\n{line}".encode()), (["make refused 53"], 3), line)
@@ -692,7 +964,8 @@ class Program(unittest.TestCase):
 
 
 class Generated(unittest.TestCase):
-    SEEDS = 240
+    SEEDS = 360
+    PACKETS, HEADS, SESSIONS = range(3)
 
     @classmethod
     def setUpClass(cls) -> None:
@@ -707,10 +980,13 @@ class Generated(unittest.TestCase):
 
     def test_lengths_and_errors(self) -> None:
         for seed, (text, (_, error)) in enumerate(zip(self.scripts, self.transcripts)):
-            turn, over_head = divmod(seed, 2)
+            turn, kind = divmod(seed, 3)
             count = len(list(io.BytesIO(text)))
-            self.assertIn(count, range(head_scripts.FEWEST_LINES, 70000) if over_head else range(30, 81))
-            self.assertEqual(error is not None, turn % 5 == 4 if over_head else turn % 4 == 3, seed)
+            fewest = {self.HEADS: head_scripts.FEWEST_LINES, self.SESSIONS: 1}
+            self.assertIn(count, range(fewest[kind], 70000) if kind in fewest else range(30, 81))
+            has_error = {self.PACKETS: turn % 4 == 3, self.HEADS: turn % 5 == 4,
+                         self.SESSIONS: session_scripts.has_error(turn)}
+            self.assertEqual(error is not None, has_error[kind], seed)
 
     def require_answers(self, starts: set[str]) -> None:
         for start in starts:
@@ -734,13 +1010,32 @@ class Generated(unittest.TestCase):
         wanted |= {f"state session asleep hung {hung}" for hung in ("yes", "no")}
         self.require_answers(wanted)
 
+    def test_every_kind_of_answer_of_sessions_comes_up(self) -> None:
+        wanted = {"wake ok", "get ok :", "set ok", "run ok", "begin ok", "collect ok :", "park ok"}
+        refusals = {"wake": (2, 7, 9), "get": (1, 3, 5, 6, 7, 9), "set": (1, 3, 5, 6, 7, 9), "run": (1, 3, 5, 7, 9),
+                    "begin": (5, 6), "collect": (6, 7, 9)}
+        wanted |= {f"{name} refused {number}" for name, numbers in refusals.items() for number in numbers}
+        reached = {"wake": (2,), "get": (2, 4, 6, 8, 10, 0xFBFE), "set": (2, 4, 6, 8, 10, 0xF800, 0xF802),
+                   "run": (2, 4, 6), "begin": (4, 6, 8, 10, 0xF800), "collect": (2, 8, 10, 0xFBFE)}
+        wanted |= {f"{name} refused 8 at {address:04X}" for name, addresses in reached.items() for address in addresses}
+        wanted |= {f"{name} refused 10 code {code}" for name, code in (
+            ("set", -9), ("run", -15), ("run", -18), ("collect", -9), ("collect", -15), ("collect", -18))}
+        wanted |= {f"state session {state.value} hung {hung}" for state in State for hung in ("yes", "no")}
+        self.require_answers(wanted)
+
+    def test_scripts_end_in_flight_too(self) -> None:
+        ends = [answers[-1] for answers, error in self.transcripts if error is None and answers]
+        self.assertIn("begin ok", ends)
+
     def test_every_number_of_links_comes_up(self) -> None:
         counts = {line.split()[1] for text in self.scripts for line in text.split(b"\n") if compare.sets_links(line)}
         self.assertTrue({b"0", b"1", b"2"} <= counts)
 
     def test_most_cameras_are_kept_alive(self) -> None:
-        hung = [answers for answers, _ in self.transcripts if any("hung yes" in answer for answer in answers)]
-        self.assertIn(len(hung), range(5, self.SEEDS // 8))
+        for kind in (self.HEADS, self.SESSIONS):
+            transcripts = [answers for answers, _ in self.transcripts[kind :: 3]]
+            hung = [answers for answers in transcripts if any("hung yes" in answer for answer in answers)]
+            self.assertIn(len(hung), range(3, len(transcripts) // 4))
 
     def test_every_draft_fault_and_pair_has_a_packet(self) -> None:
         random = Random(1)
