@@ -1,9 +1,9 @@
-# `make run` builds the bench, proving what it is made of, and lets a head under a packet link take a frame and answer its mean; `make test` is the gate.
+# `make run` builds the bench, proving what it is made of, and makes a session with a camera head over a packet link, which puts settings and gets them and the mean of a frame; `make test` is the gate.
 BENCH := crates/bench/out/bench
 SOURCES := crates.txt $(shell find crates -path '*/out' -prune -o \( -name '*.rt' -o -name '*.antt' \) -print)
 
 run: $(BENCH)
-	$(BENCH) < examples/linked.bench
+	$(BENCH) < examples/session.bench
 
 test:
 	.ci/run
