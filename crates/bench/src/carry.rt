@@ -15,6 +15,9 @@ pub(crate) fn carry_out(
     directive: Directive,
 ) -> Result<(), ScriptError> {
     match directive {
+        Directive::Flight(directive) => station.spend(rt, directive)?,
+        // nothing else may come while a command is in flight
+        _ if station.is_in_flight() => return Err(ScriptError::OutOfPlace),
         Directive::Crc(bytes) => {
             let crc = checksum(bytes.as_slice());
             println!(rt; "crc {crc:04X}")?;
@@ -41,6 +44,7 @@ pub(crate) fn carry_out(
             report(rt, "take", value.map_err(WrongSize::number))?;
         }
         Directive::Head(directive) => station.carry_out(rt, directive)?,
+        Directive::Session(directive) => station.call(rt, directive)?,
     }
     Ok(())
 }

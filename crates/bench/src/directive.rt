@@ -2,6 +2,7 @@
 use crate::error::ScriptError;
 use crate::fields::{byte, each, number, parse_access, size};
 use crate::head_directive::{HeadDirective, parse_head};
+use crate::session_directive::{FlightDirective, SessionDirective, parse_flight, parse_session};
 use crate::value::{Given, ValueDirective, parse_value};
 use packet::{Access, Denial, Function, Reply};
 use std::alloc::Global;
@@ -23,6 +24,10 @@ pub(crate) enum Directive {
     Value(ValueDirective),
     // something of the camera head
     Head(HeadDirective),
+    // something of the session with it
+    Session(SessionDirective),
+    // something of the session's command in flight
+    Flight(FlightDirective),
 }
 
 // The directive of a line, or none if the line is blank or a comment.
@@ -50,6 +55,10 @@ fn parse(heap: Global, fields: &[&str]) -> Result<Directive, ScriptError> {
         ["take", kind, words @ ..] => {
             Directive::Value(parse_value(heap, kind, Given::Words(words))?)
         }
+        ["wake" | "get" | "set" | "run" | "begin", ..] => {
+            Directive::Session(parse_session(heap, fields)?)
+        }
+        ["collect" | "park", ..] => Directive::Flight(parse_flight(fields)?),
         _ => Directive::Head(parse_head(heap, fields)?),
     };
     Ok(directive)

@@ -21,6 +21,10 @@ pub(crate) enum ScriptError {
     // a directive that needs a head before there is one
     #[error("no head has been made yet")]
     NoHead,
+    // a step of a command out of its place: a begin where the session is not ready, an end of a command where none is in
+    // flight, or anything else where one is
+    #[error("the directive is out of its place among the steps of a command")]
+    OutOfPlace,
     // a line that cannot be read as text, or an answer that cannot be printed
     #[error("the line is not text, or the answer cannot be printed")]
     Stream(#[from] io::Error),

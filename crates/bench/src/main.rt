@@ -6,6 +6,8 @@ mod directive;
 mod error;
 mod fields;
 mod head_directive;
+mod panel;
+mod session_directive;
 mod shown;
 mod station;
 mod value;
@@ -31,14 +33,21 @@ fn obey(
     }
 }
 
-fn main(rt: HostRuntime) -> anyhow::Result<()> {
-    let mut station = Station::new(rt.alloc());
+// Carries out the script, up to its end or its first error.
+fn run(rt: &HostRuntime, station: &mut Station) -> anyhow::Result<()> {
     let lines = BufReader::new(rt.alloc(), rt.stdin())?.lines(rt.alloc());
     for (number, line) in (1..=u64::MAX).zip(lines) {
-        if let Err(error) = obey(&rt, &mut station, line) {
+        if let Err(error) = obey(rt, station, line) {
             eprintln!(rt; "error: line {number}: {error}")?;
             return Err(anyhow!("the script ends in an error"));
         }
     }
     Ok(())
+}
+
+fn main(rt: HostRuntime) -> anyhow::Result<()> {
+    let mut station = Station::new(rt.alloc());
+    let outcome = run(&rt, &mut station);
+    station.close();
+    outcome
 }

@@ -1,8 +1,10 @@
 // What came of a directive, as it is printed.
 use crate::error::ScriptError;
+use calls::Refusal;
 use camera::Fault;
 use head::HeadReport;
 use packet::{Access, Denial, Reply};
+use session::Session;
 use std::fmt;
 use std::fmt::{Display, HasDigits};
 use words::Region;
@@ -55,6 +57,32 @@ impl Display for Shown<Fault> {
         let number = self.0.number();
         let address = self.0.address();
         write!(f, "{number} at {address:04X}")
+    }
+}
+
+// A refusal of a session's call: its number, and behind it the address or the response code, if one came with it.
+impl Display for Shown<Refusal> {
+    fn fmt<W: fmt::Write>(&self, f: &mut fmt::Formatter<W>) -> fmt::Result {
+        let number = self.0.number();
+        write!(f, "{number}")?;
+        if let Some(address) = self.0.address() {
+            write!(f, " at {address:04X}")?;
+        }
+        if let Some(code) = self.0.code() {
+            write!(f, " code {code}")?;
+        }
+        Ok(())
+    }
+}
+
+// The state that a session is in.
+impl<'a> Display for Shown<&'a Session> {
+    fn fmt<W: fmt::Write>(&self, f: &mut fmt::Formatter<W>) -> fmt::Result {
+        f.write_str(match self.0 {
+            Session::Asleep(_) => "asleep",
+            Session::Ready(_) => "ready",
+            Session::Parked(_) => "parked",
+        })
     }
 }
 

@@ -1,6 +1,9 @@
-// The camera head that a script works on, with the packet links over it, and the settings of the next one.
+// The camera head that a script works on, with the packet links over it, the session with it, and the settings of the next
+// head.
 use crate::error::ScriptError;
 use crate::head_directive::{HeadDirective, Setting};
+use crate::panel::Panel;
+use crate::session_directive::{FlightDirective, SessionDirective};
 use crate::shown::{Hex, Shown, WordRead, report};
 use camera::Bus;
 use head::{Head, HeadSettings};
@@ -8,12 +11,13 @@ use packet::Access;
 use stack::{Links, Stack};
 use std::alloc::Global;
 
-// The settings of the next head and of the links over it, and the head that was made last, under its links.
-#[derive(Drop)]
+// The settings of the next head and of the links over it, the head that was made last, under its links, and the panel with
+// the session. While there is no head, no directive reaches the panel. Like the panel, a station has to be closed.
 pub(crate) struct Station {
     settings: HeadSettings,
     links: Links,
     stack: Option<Stack<Head>>,
+    panel: Panel,
 }
 
 impl Station {
@@ -29,7 +33,19 @@ impl Station {
             },
             links: Links::None,
             stack: None,
+            panel: Panel::default(),
         }
+    }
+
+    // Gives the station up. A command in flight is parked first.
+    pub(crate) fn close(self) {
+        let Station {
+            settings: _,
+            links: _,
+            stack: _,
+            panel,
+        } = self;
+        panel.close();
     }
 
     // Carries out a directive on a head.
@@ -58,6 +74,31 @@ impl Station {
         }
     }
 
+    // Carries out a directive on the session.
+    pub(crate) fn call(
+        &mut self,
+        rt: &HostRuntime,
+        directive: SessionDirective,
+    ) -> Result<(), ScriptError> {
+        let stack = self.stack.as_mut().ok_or(ScriptError::NoHead)?;
+        self.panel.carry_out(rt, stack, directive)
+    }
+
+    // Carries out a directive on the session's command in flight.
+    pub(crate) fn spend(
+        &mut self,
+        rt: &HostRuntime,
+        directive: FlightDirective,
+    ) -> Result<(), ScriptError> {
+        let stack = self.stack.as_mut().ok_or(ScriptError::NoHead)?;
+        self.panel.spend(rt, stack, directive)
+    }
+
+    // Whether a command of the session is in flight.
+    pub(crate) fn is_in_flight(&self) -> bool {
+        self.panel.is_in_flight()
+    }
+
     // The head under its links.
     fn stack(&mut self) -> Result<&mut Stack<Head>, ScriptError> {
         self.stack.as_mut().ok_or(ScriptError::NoHead)
@@ -81,8 +122,8 @@ impl Station {
         }
     }
 
-    // Makes a head from the settings, which stay for later heads. The two lists are cloned here: a `Clone` of
-    // `HeadSettings` would be a public function below the programs that can fail for want of memory.
+    // Makes a head from the settings, which stay for later heads, and a session that is asleep. The two lists are cloned
+    // here: a `Clone` of `HeadSettings` would be a public function below the programs that can fail for want of memory.
     fn make(&mut self, rt: &HostRuntime) -> Result<(), ScriptError> {
         let settings = HeadSettings {
             busy: self.settings.busy.clone()?,
@@ -92,6 +133,7 @@ impl Station {
         let outcome = match Head::new(settings) {
             Ok(head) => {
                 self.stack = Some(Stack::over(head, self.links));
+                self.panel.put(Panel::default());
                 Ok("ok")
             }
             Err(refusal) => Err(refusal.number()),
@@ -114,10 +156,11 @@ impl Station {
         )
     }
 
-    // Prints the head's state. The bench keeps no session with the camera: it is named as one that was never begun.
+    // Prints the states of the session and of the head.
     fn print_state(&self, rt: &HostRuntime) -> Result<(), ScriptError> {
         let state = Shown(self.head()?.report());
-        println!(rt; "state session asleep {state}")?;
+        let session = Shown(self.panel.session()?);
+        println!(rt; "state session {session} {state}")?;
         Ok(())
     }
 
