@@ -6,7 +6,7 @@ use calls::Refusal;
 use camera::Bus;
 use session::{InFlight, Ready, Session};
 use std::alloc::AllocError;
-use std::mem::{replace, take};
+use std::mem::replace;
 
 // What each word of a buffer is before the call that it is passed to, so that those that the call leaves alone can be seen.
 const UNTOUCHED: u16 = 0xEEEE;
@@ -19,14 +19,12 @@ pub(crate) enum Panel {
     InFlight(InFlight),
 }
 
-// A session that is asleep. It also stands in the panel's place while what the panel holds is taken out.
-impl Default for Panel {
-    fn default() -> Panel {
+impl Panel {
+    // A session that is asleep. It also stands in the panel's place while what the panel holds is taken out.
+    pub(crate) fn asleep() -> Panel {
         Panel::Open(Session::new())
     }
-}
 
-impl Panel {
     // Gives the panel up. A command in flight is parked first.
     pub(crate) fn close(self) {
         match self {
@@ -65,7 +63,7 @@ impl Panel {
 
     // Takes the ready session out, for a command that uses it up. Anything else stays.
     fn take_ready(&mut self) -> Result<Ready, ScriptError> {
-        match take(self) {
+        match replace(self, Panel::asleep()) {
             Panel::Open(Session::Ready(ready)) => Ok(ready),
             other => {
                 self.put(other);
@@ -76,7 +74,7 @@ impl Panel {
 
     // Takes the command in flight out, to be spent. A session stays.
     fn take_in_flight(&mut self) -> Result<InFlight, ScriptError> {
-        match take(self) {
+        match replace(self, Panel::asleep()) {
             Panel::InFlight(token) => Ok(token),
             other => {
                 self.put(other);

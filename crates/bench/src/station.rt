@@ -33,7 +33,7 @@ impl Station {
             },
             links: Links::None,
             stack: None,
-            panel: Panel::default(),
+            panel: Panel::asleep(),
         }
     }
 
@@ -133,7 +133,7 @@ impl Station {
         let outcome = match Head::new(settings) {
             Ok(head) => {
                 self.stack = Some(Stack::over(head, self.links));
-                self.panel.put(Panel::default());
+                self.panel.put(Panel::asleep());
                 Ok("ok")
             }
             Err(refusal) => Err(refusal.number()),

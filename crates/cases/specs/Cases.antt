@@ -13,7 +13,7 @@ use Rattle.camera.specs.declared.fault.Fault.{Fault}
 use Rattle.camera.specs.Registers.{fault_number}
 use Rattle.camera.specs.Attributes.{start_words, within}
 use Rattle.camera.specs.Commands.{command, word_of}
-use Rattle.camera.specs.State.{CameraState}
+use Rattle.camera.specs.State.{CameraState, with_boot, with_busy}
 use Rattle.camera.specs.Steps.{Outcome, read_step, write_step}
 use Rattle.calls.specs.declared.refusal.Refusal.{Refusal}
 use Rattle.calls.specs.Accesses.{camera}
@@ -21,7 +21,7 @@ use Rattle.calls.specs.Beginning.{begun}
 use Rattle.calls.specs.Refusals.{number_of}
 use Rattle.cases.specs.Sequences.{SequencesHold, fresh, missing_after}
 
--- what a definition gives: a word or none, words, bytes, a refusal's number, a response code, or yes or no
+-- what a definition gives: a word or none, words, bytes, a refusal's number, a response code, yes or no, or that it hangs
 pub data Answer : Type 0 where
   word : ℕ → Answer
   no_word : Answer
@@ -30,6 +30,7 @@ pub data Answer : Type 0 where
   refused : ℕ → Answer
   code : ℤ → Answer
   allowed : Bool → Answer
+  hangs : Bool → Answer
 
 -- how a byte string fares when it is read as a request: its packet again, or a refusal
 abbrev pub read_request : Result Access PacketRefusal → Answer
@@ -85,6 +86,10 @@ worked_cases =
     ∷ case (found_word (word_of (command Set 17))) (word 0x4859)
     -- without the protection bit it gets −7
     ∷ case (code (write_step (idle_after (negsuc 8)) 0x0004 0x0859).after.interpreter.code) (code (negsuc 6))
+    -- a write hangs a camera that is busy, and one that boots, and no other
+    ∷ case (hangs (write_step (with_busy 2 (idle_after (negsuc 8))) 0x0006 1).after.hung) (hangs true)
+    ∷ case (hangs (write_step (with_boot 2 (idle_after (negsuc 8))) 0x0006 1).after.hung) (hangs true)
+    ∷ case (hangs (write_step (idle_after (negsuc 8)) 0x0006 1).after.hung) (hangs false)
     -- −3 as a signed pair
     ∷ case (words (signed_words (negsuc 2))) (words (0xFFFD ∷ 0xFFFF ∷ []))
     -- 0x12345678 as a pair
