@@ -64,3 +64,9 @@ merged_words records saved old all = fun_ext (λ k. go k (leb 20 k) refl)
             take (size_of k) (get_or records k blank).words ≡ cond b (cond b (take (size_of k) (get_or saved k blank).words) []) (take (size_of k) (get_or old k blank).words)
         split true e = e
         split false e = e
+
+-- Putting back has come to a place: below it the records are those after a restore, from there on they are as they were.
+pub record Turn (records saved old : List Record) (n : ℕ) : Type 0 where
+  pub size : length records ≡ 20
+  pub below : (k : ℕ) → k < n → get_or records k blank ≡ after_restore saved old k
+  pub above : (k : ℕ) → n ≤ k → get_or records k blank ≡ get_or old k blank

