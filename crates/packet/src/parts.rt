@@ -112,7 +112,9 @@ impl<'a> Parts<'a> {
         }
     }
 
-    // Writes the packet to the front of a buffer, and says how many bytes it has.
+    // Writes the packet to the front of a buffer, and says how many bytes it has. Inlined for speed where each kind of packet
+    // is made, since what stands in its front is mostly known there: as a call, packing took twice the time.
+    #[inline(always)]
     pub(crate) fn write(self, buffer: &mut [u8]) -> Result<usize, PacketRefusal>
         requires { length self.arguments.now ≤ 4 }
         ensures answer { result ≡ written (packet (parts_content self.entry)) buffer.old }
