@@ -1,10 +1,16 @@
--- Replies fit into a buffer that has room for the largest packet, and packets stand at its front.
+-- Packets fit into a buffer that has room for the largest one, and stand at its front.
 use Rattle.std.proofs.Common.{◌≡◌, ℕ, ◌+◌, ◌-◌, ◌≤◌, List, ◌++◌, length, take, drop, Ok, Err, sym, refl, ap, ◌∙◌, ap₂, arith}
 use Rattle.std.proofs.lemmas.List.{append_assoc, drop-drop, drop-take, take_at, take-append-drop}
+use Rattle.packet.specs.declared.Access.{Access}
+use Rattle.packet.specs.declared.Access.TheVariants.{Read as ReadAccess, Write as WriteAccess}
 use Rattle.packet.specs.declared.Reply.{Reply}
 use Rattle.packet.specs.declared.Reply.TheVariants.{Read as ReadReply, Write as WriteReply}
-use Rattle.packet.specs.Layout.{over, reply_content, reply_packet, room}
+use Rattle.packet.specs.Layout.{over, reply_content, reply_packet, request_content, request_packet, room}
 use Rattle.packet.proofs.Contents.{packet_length}
+
+pub request_fits : (access : Access) → length (request_packet access) ≤ room
+request_fits (ReadAccess address) = omega (arith, packet_length (request_content (ReadAccess address)))
+request_fits (WriteAccess address word) = omega (arith, packet_length (request_content (WriteAccess address word)))
 
 pub reply_fits : (reply : Reply) → length (reply_packet reply) ≤ room
 reply_fits (ReadReply (Ok word)) = omega (arith, packet_length (reply_content (ReadReply (Ok word))))

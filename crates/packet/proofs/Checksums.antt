@@ -1,8 +1,9 @@
 -- Words as bytes, and byte strings that end in their checksum.
 use Rattle.std.proofs.Common.{◌≡◌, ℕ, zero, suc, ◌+◌, ◌-◌, ◌*◌, ◌/◌, ◌%◌, ◌<◌, ◌≤◌, true, List, [], ◌∷◌, ◌++◌, length, get_or, take, drop, sym, refl, ap, ◌∙◌, ap₂, div-add-mod', add-sub_cancel, arith, eq-eqb}
-use Rattle.std.proofs.lemmas.List.{length-append, get_or-append-add, get_or-drop, take_at, take-append-drop, length-drop}
+use Rattle.std.proofs.lemmas.List.{append_assoc, length-append, get_or-append-add, get_or-drop, take_at, take-append-drop, length-drop}
 use Rattle.std.specs.Int.{w16, to_be_bytes}
-use Rattle.crc.specs.Crc.{crc_of, crc_bytes, Bytes}
+use Rattle.crc.specs.Crc.{crc_from, crc_of, crc_bytes, Bytes}
+use Rattle.crc.proofs.Sealed.{crc_append}
 use Rattle.packet.specs.Layout.{be_bytes, be_word, with_checksum}
 use Rattle.packet.specs.Reading.{byte_at, word_at, ends_in_checksum}
 
@@ -68,3 +69,10 @@ ends_back p bytes long e =
     let tail : crc_bytes (crc_of (take n p)) ≡ drop n p =
     ap be_bytes (sym word) ∙ be_back (byte_at p n) (byte_at p (n + 1)) (bytes n) (bytes (n + 1)) ∙ sym (same ∙ ap₂ (λ x y. x ∷ y ∷ []) high low) in
     sym (ap (λ t. take n p ++ t) tail ∙ take-append-drop n p)
+
+-- Behind bytes of checksum 0 the checksum of what follows is that of all.
+pub sealed_behind : (xs ys : List ℕ) → crc_of xs ≡ 0 → xs ++ with_checksum ys ≡ with_checksum (xs ++ ys)
+unfolding with_checksum
+sealed_behind xs ys zeroed =
+    let same : crc_of (xs ++ ys) ≡ crc_of ys = crc_append xs ys 0 ∙ ap (λ r. crc_from r ys) zeroed in
+    sym (ap (λ k. (xs ++ ys) ++ crc_bytes k) same ∙ append_assoc xs ys (crc_bytes (crc_of ys)))
