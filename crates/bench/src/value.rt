@@ -3,17 +3,45 @@ use crate::error::ScriptError;
 use crate::fields::{each, number, signed_number};
 use crate::shown::Shown;
 use std::alloc::Global;
-use std::convert::identity;
+use std::fmt;
 use std::fmt::Display;
 use words::{Region, WordCodec, WrongSize};
 
-// What a line asks of a value. The value's kind is known only while the line is read: what is kept is what is printed.
+// A value of any kind.
+#[derive(Clone, Copy)]
+pub(crate) enum Value {
+    // a number of 16 bits
+    Single(u16),
+    // a number of 32 bits
+    Pair(u32),
+    // a signed number of 32 bits
+    Signed(i32),
+    // a number of 64 bits
+    Quad(u64),
+    // a region of the sensor
+    Region(Region),
+}
+
+// A value, as a script writes it.
+impl Display for Value {
+    fn fmt<W: fmt::Write>(&self, f: &mut fmt::Formatter<W>) -> fmt::Result {
+        match *self {
+            Value::Single(value) => write!(f, "{value}"),
+            Value::Pair(value) => write!(f, "{value}"),
+            Value::Signed(value) => write!(f, "{value}"),
+            Value::Quad(value) => write!(f, "{value}"),
+            Value::Region(region) => Shown(region).fmt(f),
+        }
+    }
+}
+
+// What a line asks of a value.
 #[derive(Drop)]
 pub(crate) enum ValueDirective {
     // the words of a value
     Put(Vec<u16>),
-    // the value of words, as a script writes it
-    Take(Result<String, WrongSize>),
+    // the value of words. It is kept as it is until it is printed: a text of it would be one more thing to run out of memory
+    Take(Result<Value, WrongSize>),
 }
 
 // A value as a line gives it.
@@ -26,36 +54,35 @@ pub(crate) enum Given<'a> {
 }
 
 // The directive on a value of a kind, given by the kind's name. Each kind has a way in which its values are written and
-// one in which they are shown.
+// a variant for them.
 pub(crate) fn parse_value(
     heap: Global,
     kind: &str,
     given: Given,
 ) -> Result<ValueDirective, ScriptError> {
     match kind {
-        "single" => parse_kind(heap, given, number::<u16>, identity),
-        "pair" => parse_kind(heap, given, number::<u32>, identity),
-        "signed" => parse_kind(heap, given, signed_number, identity),
-        "quad" => parse_kind(heap, given, number::<u64>, identity),
-        "region" => parse_kind(heap, given, |text| parse_region(heap, text), Shown),
+        "single" => parse_kind(heap, given, number::<u16>, Value::Single),
+        "pair" => parse_kind(heap, given, number::<u32>, Value::Pair),
+        "signed" => parse_kind(heap, given, signed_number, Value::Signed),
+        "quad" => parse_kind(heap, given, number::<u64>, Value::Quad),
+        "region" => parse_kind(heap, given, |text| parse_region(heap, text), Value::Region),
         _ => Err(ScriptError::Directive),
     }
 }
 
-// The directive on a value of a kind whose values are written and shown in a way.
-fn parse_kind<C, D, P, S>(
+// The directive on a value of a kind whose values are written in a way and have a variant.
+fn parse_kind<C, P, V>(
     heap: Global,
     given: Given,
     parse: P,
-    shown: S,
+    variant: V,
 ) -> Result<ValueDirective, ScriptError>
 where
     C: WordCodec,
-    D: Display + Drop,
     P: Fn(&str) -> Result<C, ScriptError>,
-    S: Fn(C) -> D,
+    V: Fn(C) -> Value,
     requires parse { P.IsAlwaysCallable parse }
-    requires shown { S.IsAlwaysCallable shown }
+    requires variant { V.IsAlwaysCallable variant }
 {
     match given {
         Given::Value(text) => {
@@ -69,15 +96,20 @@ where
         Given::Words(fields) => {
             let words = each(heap, fields, number::<u16>)?;
             match C::take(words.as_slice()) {
-                Ok(value) => Ok(ValueDirective::Take(Ok(shown(value).to_string(heap)?))),
+                Ok(value) => Ok(ValueDirective::Take(Ok(variant(value)))),
                 Err(refusal) => Ok(ValueDirective::Take(Err(refusal))),
             }
         }
     }
 }
 
-// A region is its four numbers, in the order of its words, with commas between them.
+// A region is its four numbers, in the order of its words, with commas between them. One number more than it has is read, to
+// see that there are too many.
 fn parse_region(heap: Global, text: &str) -> Result<Region, ScriptError> {
-    let numbers: Vec<u16> = text.split(',').map(number::<u16>).try_collect(heap)?;
+    let numbers: Vec<u16> = text
+        .split(',')
+        .take(Region::word_count() + 1)
+        .map(number::<u16>)
+        .try_collect(heap)?;
     Region::take(numbers.as_slice()).map_err(|_| ScriptError::Number)
 }
