@@ -52,8 +52,8 @@ pub(crate) struct Inner {
 }
 
 impl Record {
-    ghost use Rattle.std.specs.Prelude.{◌≤◌, take};
-    ghost use Rattle.camera.specs.Attributes.{size_of};
+    ghost use Rattle.std.specs.Prelude.{◌≤◌, cond, take};
+    ghost use Rattle.camera.specs.Attributes.{is_saved, size_of};
     ghost use Rattle.camera.specs.Registers.{over};
     ghost use Rattle.head.specs.Meaning.{blank};
 
@@ -73,6 +73,15 @@ impl Record {
     {
         lay(&mut self.words, words);
         self
+    }
+
+    // Becomes the saved record of a number if the user defaults save that attribute.
+    fn put_back(&mut self, number: u16, saved: &Record)
+        ensures after { self.new ≡ cond (is_saved number) saved.now self.old }
+    {
+        if is_saved(number) {
+            *self = *saved;
+        }
     }
 
     // The words that the attribute of a number uses.
@@ -114,9 +123,7 @@ impl Table {
         ensures after { words_in self.new.records ≡ put_back (only_saved (words_in saved.now.records)) (words_in self.old.records) }
     {
         for (place, record) in self.records.iter_mut().enumerate() {
-            if is_saved(place as u16) {
-                *record = saved.records[place];
-            }
+            record.put_back(place as u16, &saved.records[place]);
         }
     }
 }
