@@ -124,6 +124,9 @@ impl Station {
 
     // Makes a head from the settings, which stay for later heads, and a session that is asleep. The two lists are cloned
     // here: a `Clone` of `HeadSettings` would be a public function below the programs that can fail for want of memory.
+    // Out of line, like `load_frame`: the heads that they move took 100 KB in the frame of `carry_out`, which each directive
+    // paid for when it entered: lines of settings took 1.4 times as long.
+    #[inline(never)]
     fn make(&mut self, rt: &HostRuntime) -> Result<(), ScriptError> {
         let settings = HeadSettings {
             busy: self.settings.busy.clone()?,
@@ -143,6 +146,7 @@ impl Station {
 
     // The sensor's frame goes to the head itself. A stack lends the bus below its links only to be looked at, so the
     // links are taken off for it and laid again.
+    #[inline(never)]
     fn load_frame(&mut self, rt: &HostRuntime, pixels: Vec<u16>) -> Result<(), ScriptError> {
         let stack = self.stack.take().ok_or(ScriptError::NoHead)?;
         let links = stack.links();
