@@ -1,4 +1,5 @@
 pub mod Addresses
+pub mod Dim
 pub mod Lists
 pub mod CommandWords
 pub mod Changes

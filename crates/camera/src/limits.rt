@@ -65,16 +65,28 @@ fn colours_fit(words: &[u16]) -> bool
     words.iter().step_by(2).all(|word| *word <= 255)
 }
 
-// Whether no word is above a greatest one. A loop for speed: over a frame in an array it is worked eight words at a time, and
-// `iter().all(..)`, `any`, `find` and `position` word by word, in two to six times the time; `copied().max()` and a fold are as
-// fast, but read on behind the first word that is too great.
+// Whether no word is above a greatest one. The words are tested 64 at a time, and all of the 64, which the compiler works many at
+// once: `iter().all(..)`, and a loop that returns at the word itself, go word by word and took several times as long for a frame.
 pub fn all_at_most(words: &[u16], greatest: u16) -> bool
     ensures value { result ≡ all_at_most greatest words.now }
 {
-    for word in words {
-        if *word > greatest {
+    let mut left = words;
+    while let Some((part, rest)) = left.split_first_chunk::<64>() {
+        if !none_above(part, greatest) {
             return false;
         }
+        left = rest;
     }
-    true
+    none_above(left, greatest)
+}
+
+// The same, by a look at every word.
+fn none_above(words: &[u16], greatest: u16) -> bool
+    ensures value { result ≡ all_at_most greatest words.now }
+{
+    let mut none = true;
+    for word in words {
+        none &= *word <= greatest;
+    }
+    none
 }
